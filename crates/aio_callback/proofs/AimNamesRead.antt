@@ -1,5 +1,5 @@
 -- What the aim of a record tells.
-use Rattle.std.proofs.Common.{◌≡◌, List, [], ◌∷◌, map, refl, arith}
+use Rattle.std.proofs.Common.{◌≡◌, List, [], ◌∷◌, map, refl, arith, ℕ, Bool, true, false, cond}
 use Rattle.aio_callback.specs.declared.chain.CallbackId.{CallbackId}
 use Rattle.aio_callback.specs.declared.chain.CallbackId.TheVariants.{File, Buffer, Count}
 use Rattle.aio_callback.specs.declared.chain.CallbackId.TheVariants.{ZeroBuffer}
@@ -32,7 +32,21 @@ same-ids (x ∷ xs) (y ∷ ys) e =
     let tail : map number_of_id xs ≡ map number_of_id ys = cc in
     (λ k. same-id x y head k ∷ same-ids xs ys tail k)
 
+same-flag : (a b : Bool) → cond {A = ℕ} a 1 0 ≡ cond b 1 0 → a ≡ b
+same-flag true true e = refl
+same-flag true false e = absurd (omega arith)
+same-flag false true e = absurd (omega arith)
+same-flag false false e = refl
+
 pub reads-as : (r s : ReadIoView) → record_aim r ≡ record_aim s → ReadsAs r s
 reads-as r s e =
     let ids : map number_of_id r.ids ≡ map number_of_id s.ids = cc in
-    record { relation = cc; first = cc; count = cc; ids = same-ids r.ids s.ids ids; room = cc }
+    let flag : cond {A = ℕ} r.checksums 1 0 ≡ cond s.checksums 1 0 = cc in
+    record {
+      relation = cc;
+      first = cc;
+      count = cc;
+      checksums = same-flag r.checksums s.checksums flag;
+      ids = same-ids r.ids s.ids ids;
+      room = cc;
+    }

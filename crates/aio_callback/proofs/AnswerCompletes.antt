@@ -6,7 +6,7 @@ use Rattle.std.specs.Prelude.{IfSome}
 use Rattle.std.proofs.lemmas.List.{get_or-take}
 use Rattle.std.proofs.lemmas.List.FromFn.{get_or-map-range_with_len}
 use Rattle.page_check.specs.Told.{Told, relation_page, relation_block_count}
-use Rattle.page_check.specs.Verdict.{verdict_of, IsValid}
+use Rattle.page_check.specs.Checksum.{verdict_as, IsValidAs}
 use Rattle.page_check.specs.SynchronousAnswer.{Page, Damaged, found_at}
 use Rattle.page_check.proofs.SynchronousReads.{found_at-page, found_at-damaged}
 use Rattle.page_check.specs.declared.verdict.Verdict.{Verdict}
@@ -36,13 +36,15 @@ pub record IsPageOf (told : Told) (relation block : ℕ) (page : List ℕ) : Typ
   pub same : page ≡ relation_page told relation block
 
 -- a valid one is what its block gives
-found_good : (told : Option Told) (relation block : ℕ) (page : List ℕ) → IsValid page
+found_good : (sums : Bool) (told : Option Told) (relation block : ℕ) (page : List ℕ)
+    → IsValidAs sums block page
     → IfSome told (λ t. IsPageOf t relation block page)
-    → IfSome told (λ t. found_at t relation block ≡ Page page)
-found_good None relation block page valid h = h
-found_good (Some t) relation block page valid h =
-    let P : List ℕ → Type 0 = λ p. found_at t relation block ≡ Page p in
-    subst P (sym h.same) (found_at-page t relation block h.there (subst IsValid h.same valid))
+    → IfSome told (λ t. found_at sums t relation block ≡ Page page)
+found_good sums None relation block page valid h = h
+found_good sums (Some t) relation block page valid h =
+    let P : List ℕ → Type 0 = λ p. found_at sums t relation block ≡ Page p in
+    subst P (sym h.same)
+    (found_at-page sums t relation block h.there (subst (IsValidAs sums block) h.same valid))
 
 is_bad-verdict : (v : Verdict) → is_bad_verdict v ≡ true → v ≡ Bad
 is_bad-verdict Bad is = refl
@@ -50,13 +52,15 @@ is_bad-verdict Zero is = absurd (cc)
 is_bad-verdict Sane is = absurd (cc)
 
 -- and a bad one tells that its block is damaged
-pub found_bad : (told : Option Told) (relation block : ℕ) (page : List ℕ) → is_bad page ≡ true
+pub found_bad : (sums : Bool) (told : Option Told) (relation block : ℕ) (page : List ℕ)
+    → is_bad sums block page ≡ true
     → IfSome told (λ t. IsPageOf t relation block page)
-    → IfSome told (λ t. found_at t relation block ≡ Damaged)
-found_bad None relation block page bad h = h
-found_bad (Some t) relation block page bad h =
-    found_at-damaged t relation block h.there
-    (is_bad-verdict (verdict_of (relation_page t relation block)) (ap is_bad (sym h.same) ∙ bad))
+    → IfSome told (λ t. found_at sums t relation block ≡ Damaged)
+found_bad sums None relation block page bad h = h
+found_bad sums (Some t) relation block page bad h =
+    found_at-damaged sums t relation block h.there
+    (is_bad-verdict (verdict_as sums block (relation_page t relation block))
+    (ap (is_bad sums block) (sym h.same) ∙ bad))
 
 -- a page among those that were read is that of its block
 pub told_at : (told : Option Told) (relation first n i : ℕ) (pages : List (List ℕ)) → i < n
@@ -71,46 +75,49 @@ told_at (Some t) relation first n i pages lt h = record {
 }
 
 -- what a page that is held in place of a told one is given as
-given_as : (told : Option Told) (relation block : ℕ) (mark : Bool) (read page : List ℕ)
-    → IfSome told (λ t. IsPageOf t relation block read) → IsValid page → PageMatchesMark mark read page
-    → IsGivenAs told relation block page mark
-given_as told relation block false read page there valid held = record {
+given_as : (sums : Bool) (told : Option Told) (relation block : ℕ) (mark : Bool)
+    (read page : List ℕ) → IfSome told (λ t. IsPageOf t relation block read)
+    → IsValidAs sums block page → PageMatchesMark sums block mark read page
+    → IsGivenAs told sums relation block page mark
+given_as sums told relation block false read page there valid held = record {
   valid = valid;
-  told_page = found_good told relation block page valid
+  told_page = found_good sums told relation block page valid
       (subst (λ (x : List ℕ). IfSome told (λ t. IsPageOf t relation block x)) (sym held) there);
 }
-given_as told relation block true read page there valid held =
-    record { zeros = held.zeros; told_bad = found_bad told relation block read held.bad there }
+given_as sums told relation block true read page there valid held =
+    record { zeros = held.zeros; told_bad = found_bad sums told relation block read held.bad there }
 
 -- what the callbacks make of this answer and these pages
 abbrev run : ReadIoView → Raw → List (List ℕ) → Outcome
-run r answer pages = chain_result r.count r.ids (chain_start answer pages)
+run r answer pages = chain_result r.checksums r.first r.count r.ids (chain_start answer pages)
 
 goods : (told : Option Told) (r : ReadIoView) (answer : Raw) (pages : List (List ℕ))
     → IsToldRead told r answer pages → r.count ≤ length pages
     → (i : ℕ) → i < good_count r.ids (run r answer pages).result
-    → IsGivenAs told r.relation (r.first + i) (get_or (run r answer pages).pages i [])
+    → IsGivenAs told r.checksums r.relation (r.first + i) (get_or (run r answer pages).pages i [])
     (get_or (run r answer pages).zeroed i false)
 goods told r Failed pages h room i lt =
-    let b = good_below r.count r.ids (chain_start Failed pages) in absurd (omega arith)
+    let b = good_below r.checksums r.first r.count r.ids (chain_start Failed pages) in absurd (omega arith)
 goods told r (Read n) pages h room i lt =
-    let b = good_below r.count r.ids (chain_start (Read n) pages) in
+    let b = good_below r.checksums r.first r.count r.ids (chain_start (Read n) pages) in
     let w = h.0 in
     let o = run r (Read n) pages in
-    let valid : IsValid (get_or o.pages i []) =
-    not_bad (verdict_of (get_or o.pages i []))
-    (good_clean r.count r.ids (Read n) pages (omega arith) i lt) in
-    given_as told r.relation (r.first + i) (get_or o.zeroed i false) (get_or pages i [])
-    (get_or o.pages i []) (told_at told r.relation r.first n i pages (omega arith) h.1) valid
-    (match_at o.zeroed pages o.pages i (omega arith) (begun_holds r.count r.ids (Read n) pages))
+    let valid : IsValidAs r.checksums (r.first + i) (get_or o.pages i []) =
+    not_bad (verdict_as r.checksums (r.first + i) (get_or o.pages i []))
+    (good_clean r.checksums r.first r.count r.ids (Read n) pages (omega arith) i lt) in
+    given_as r.checksums told r.relation (r.first + i) (get_or o.zeroed i false)
+    (get_or pages i []) (get_or o.pages i [])
+    (told_at told r.relation r.first n i pages (omega arith) h.1) valid
+    (match_at r.checksums r.first o.zeroed pages o.pages i (r.first + i) (omega arith) refl
+    (begun_holds r.checksums r.first r.count r.ids (Read n) pages))
 
 few : (told : Option Told) (r : ReadIoView) (answer : Raw) (pages : List (List ℕ))
     → IsToldRead told r answer pages → good_count r.ids (run r answer pages).result ≤ r.count
 few told r (Read n) pages h =
-    let b = good_below r.count r.ids (chain_start (Read n) pages) in
+    let b = good_below r.checksums r.first r.count r.ids (chain_start (Read n) pages) in
     let w = h.0 in omega arith
 few told r Failed pages h =
-    let b = good_below r.count r.ids (chain_start Failed pages) in omega arith
+    let b = good_below r.checksums r.first r.count r.ids (chain_start Failed pages) in omega arith
 
 still : (told : Option Told) (r : ReadIoView) (answer other : Raw) (pages : List (List ℕ))
     → IsToldRead told r answer pages → IsToldRead told (after_shared r other) answer pages
@@ -177,5 +184,7 @@ pub aim_after : (told : Option Told) (r s : ReadIoView) → HasAnswer told r
 aim_after told r s a h =
     let o = run r a.answer r.pages in
     ap record_aim (shared_by_answer r s r.raw a.answer a.is h)
-    ∙ ap (λ (n : ℕ). n ∷ r.relation ∷ r.first ∷ r.count ∷ map number_of_id r.ids)
-    (matching_pages o.zeroed r.pages o.pages (begun_holds r.count r.ids a.answer r.pages))
+    ∙ ap (λ (n : ℕ). n ∷ r.relation ∷ r.first ∷ r.count ∷ cond r.checksums 1 0
+    ∷ map number_of_id r.ids)
+    (matching_pages r.checksums r.first o.zeroed r.pages o.pages
+    (begun_holds r.checksums r.first r.count r.ids a.answer r.pages))

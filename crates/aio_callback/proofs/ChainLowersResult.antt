@@ -2,7 +2,7 @@
 use Rattle.std.proofs.Common.{◌≡◌, ℕ, zero, suc, ap, subst, ◌≤◌, Bool, true, false, nat_lt, ◌==◌}
 use Rattle.std.proofs.Common.{if◌then◌else◌, List, [], ◌∷◌, take, le_refl, refl, arith, Option}
 use Rattle.std.proofs.Common.{Some, None, pos}
-use Rattle.std.proofs.lemmas.List.Quantifiers.{position-Some}
+use Rattle.aio_callback.proofs.BlocksOfPages.{first_bad-some}
 use Rattle.std.proofs.lemmas.List.{length-take}
 use Rattle.aio_result.specs.declared.AioResult.{AioResult}
 use Rattle.aio_result.specs.declared.Status.TheVariants.{Partial, Error}
@@ -34,20 +34,20 @@ file_below count p =
     (either_below (nat_lt (natural_part p.result) count) (result_of 1 Partial 0 p.result) p n
     (le_refl n) (le_refl n)))
 
-stopped_below : (pages : List (List ℕ)) (p : AioResult) (o : Option ℕ)
-    → first_bad (take (natural_part p.result) pages) ≡ o
+stopped_below : (sums : Bool) (from : ℕ) (pages : List (List ℕ)) (p : AioResult) (o : Option ℕ)
+    → first_bad sums from (take (natural_part p.result) pages) ≡ o
     → Below (natural_part p.result) (stopped_at p o)
-stopped_below pages p None e = le_refl (natural_part p.result)
-stopped_below pages p (Some i) e =
-    let s = (position-Some is_bad (take (natural_part p.result) pages) i [] e).0 in
+stopped_below sums from pages p None e = le_refl (natural_part p.result)
+stopped_below sums from pages p (Some i) e =
+    let s = (first_bad-some sums from (take (natural_part p.result) pages) i e).within in
     let l = length-take (natural_part p.result) pages in omega arith
 
-pub buffer_below : (pages : List (List ℕ)) (p : AioResult)
-    → Below (natural_part p.result) (after_buffer pages p)
+pub buffer_below : (sums : Bool) (from : ℕ) (pages : List (List ℕ)) (p : AioResult)
+    → Below (natural_part p.result) (after_buffer sums from pages p)
 unfolding after_buffer
-buffer_below pages p =
+buffer_below sums from pages p =
     either_below (is_error p.status) p _ (natural_part p.result) (le_refl (natural_part p.result))
-    (stopped_below pages p (first_bad (take (natural_part p.result) pages)) refl)
+    (stopped_below sums from pages p (first_bad sums from (take (natural_part p.result) pages)) refl)
 
 pub warned_same : (k : ℕ) (p : AioResult) → (with_warning k p).result ≡ p.result
 warned_same zero p = refl
@@ -58,38 +58,39 @@ either_outcome_below : (b : Bool) (x y : Outcome) (n : ℕ) → Below n x.result
 either_outcome_below true x y n l r = l
 either_outcome_below false x y n l r = r
 
-pub zero_below : (o : Outcome) → Below (natural_part o.result.result) (after_zero o).result
+pub zero_below : (sums : Bool) (from : ℕ) (o : Outcome)
+    → Below (natural_part o.result.result) (after_zero sums from o).result
 unfolding after_zero
-zero_below o =
+zero_below sums from o =
     let n : ℕ = natural_part o.result.result in
-    let same = ap natural_part (warned_same (bad_among (take n o.pages)) o.result) in
-    either_outcome_below (is_error o.result.status) o (zeroed_first n o) n (le_refl n)
+    let same = ap natural_part (warned_same (bad_among sums from (take n o.pages)) o.result) in
+    either_outcome_below (is_error o.result.status) o (zeroed_first sums from n o) n (le_refl n)
     (omega arith)
 
-callback_below : (count : ℕ) (id : CallbackId) (o : Outcome)
-    → Below (natural_part o.result.result) (after_callback count id o).result
-callback_below count File o = file_below count o.result
-callback_below count Buffer o = buffer_below o.pages o.result
-callback_below count Count o = le_refl (natural_part o.result.result)
-callback_below count ZeroBuffer o = zero_below o
+callback_below : (sums : Bool) (from count : ℕ) (id : CallbackId) (o : Outcome)
+    → Below (natural_part o.result.result) (after_callback sums from count id o).result
+callback_below sums from count File o = file_below count o.result
+callback_below sums from count Buffer o = buffer_below sums from o.pages o.result
+callback_below sums from count Count o = le_refl (natural_part o.result.result)
+callback_below sums from count ZeroBuffer o = zero_below sums from o
 
-pub chain_below : (count : ℕ) (ids : List CallbackId) (o : Outcome)
-    → Below (natural_part o.result.result) (chain_result count ids o).result
-chain_below count [] o = le_refl (natural_part o.result.result)
-chain_below count (id ∷ ids) o =
-    let a = callback_below count id (chain_result count ids o) in
-    let b = chain_below count ids o in omega arith
+pub chain_below : (sums : Bool) (from count : ℕ) (ids : List CallbackId) (o : Outcome)
+    → Below (natural_part o.result.result) (chain_result sums from count ids o).result
+chain_below sums from count [] o = le_refl (natural_part o.result.result)
+chain_below sums from count (id ∷ ids) o =
+    let a = callback_below sums from count id (chain_result sums from count ids o) in
+    let b = chain_below sums from count ids o in omega arith
 
 good_few : (c : Bool) (n : ℕ) → (if c then n else 0) ≤ n
 good_few true n = le_refl n
 good_few false n = omega arith
 
 -- no more pages are good than were read
-pub good_below : (count : ℕ) (ids : List CallbackId) (o : Outcome)
-    → good_count ids (chain_result count ids o).result ≤ natural_part o.result.result
-good_below count ids o =
-    let a = good_few (has_check_behind_file ids) (natural_part (chain_result count ids o).result.result) in
-    let b = chain_below count ids o in omega arith
+pub good_below : (sums : Bool) (from count : ℕ) (ids : List CallbackId) (o : Outcome)
+    → good_count ids (chain_result sums from count ids o).result ≤ natural_part o.result.result
+good_below sums from count ids o =
+    let a = good_few (has_check_behind_file ids) (natural_part (chain_result sums from count ids o).result.result) in
+    let b = chain_below sums from count ids o in omega arith
 
 first_within : (count : ℕ) (answer : Raw) → IsWithin count answer
     → natural_part (raw_result answer).result ≤ count

@@ -31,6 +31,7 @@ abbrev told_at : ReadIoView → ℕ → Option (List ℕ) → Finish
 told_at r i page = record {
   relation = r.relation;
   block = r.first + i;
+  checksums = r.checksums;
   reference = record_reference r;
   page = page;
 }

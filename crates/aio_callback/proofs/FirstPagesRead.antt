@@ -1,4 +1,5 @@
 -- A record whose first pages were read.
+use Rattle.std.proofs.Common.{cond}
 use Rattle.std.proofs.Common.{◌≡◌, ℕ, ◌≤◌, List, ◌++◌, take, drop, length, refl}
 use Rattle.std.proofs.Common.{◌∙◌, ◌∷◌, map, ap, sym}
 use Rattle.std.proofs.Common.{arith, Option, Some, None}
@@ -53,5 +54,5 @@ answered_by told r answer pages size room h = record {
 pub aim_stays : (r : ReadIoView) (pages : List (List ℕ))
     → record_aim (with_pages r pages) ≡ record_aim r
 aim_stays r pages =
-    ap (λ (n : ℕ). n ∷ r.relation ∷ r.first ∷ r.count ∷ map number_of_id r.ids)
+    ap (λ (n : ℕ). n ∷ r.relation ∷ r.first ∷ r.count ∷ cond r.checksums 1 0 ∷ map number_of_id r.ids)
     (sym (length_refill (length r.pages) r.pages pages refl))

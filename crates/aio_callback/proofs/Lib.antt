@@ -1,3 +1,4 @@
+pub mod BlocksOfPages
 pub mod ChainLowersResult
 pub mod ChainChangesPages
 pub mod CheckedPages

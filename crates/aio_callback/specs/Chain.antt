@@ -8,7 +8,7 @@ use Rattle.std.specs.Prelude.{negsuc}
 use Rattle.std.specs.List.{zip, list_any}
 use Rattle.page_check.specs.declared.verdict.Verdict.{Verdict}
 use Rattle.page_check.specs.declared.verdict.Verdict.TheVariants.{Bad}
-use Rattle.page_check.specs.Verdict.{verdict_of}
+use Rattle.page_check.specs.Checksum.{verdict_as}
 use Rattle.page_check.specs.SynchronousAnswer.{zero_page}
 use Rattle.aio_result.specs.declared.AioResult.{AioResult}
 use Rattle.aio_result.specs.declared.Status.{Status}
@@ -65,21 +65,31 @@ abbrev pub is_bad_verdict : Verdict → Bool
 is_bad_verdict Bad = true
 is_bad_verdict _ = false
 
-abbrev pub is_bad : List ℕ → Bool
-is_bad page = is_bad_verdict (verdict_of page)
+-- a page is bad as this block, with checksums verified or not
+abbrev pub is_bad : Bool → ℕ → List ℕ → Bool
+is_bad checksums block page = is_bad_verdict (verdict_as checksums block page)
+
+-- pages beside the numbers of their blocks, from this one on
+abbrev pub with_blocks : ℕ → List (List ℕ) → List (ℕ × List ℕ)
+with_blocks first [] = []
+with_blocks first (page ∷ pages) = (first, page) ∷ with_blocks (suc first) pages
+
+abbrev pub is_bad_block : Bool → ℕ × List ℕ → Bool
+is_bad_block checksums x = is_bad checksums x.0 x.1
 
 -- the place of the first page that is bad
-abbrev pub first_bad : List (List ℕ) → Option ℕ
-first_bad pages = position is_bad pages
+abbrev pub first_bad : Bool → ℕ → List (List ℕ) → Option ℕ
+first_bad checksums first pages = position (is_bad_block checksums) (with_blocks first pages)
 
 abbrev pub stopped_at : AioResult → Option ℕ → AioResult
 stopped_at p None = p
 stopped_at p (Some i) = result_of 2 Error i (pos i)
 
 -- an error stays; else the first bad page among those that were read is one
-unfoldable pub after_buffer : List (List ℕ) → AioResult → AioResult
-after_buffer pages p =
-    if is_error p.status then p else stopped_at p (first_bad (take (natural_part p.result) pages))
+unfoldable pub after_buffer : Bool → ℕ → List (List ℕ) → AioResult → AioResult
+after_buffer checksums first pages p =
+    if is_error p.status then p
+    else stopped_at p (first_bad checksums first (take (natural_part p.result) pages))
 
 -- a result beside the pages that are then held, and which of them were set to zeros
 pub record Outcome : Type 0 where
@@ -99,23 +109,24 @@ abbrev pub chain_start : Raw → List (List ℕ) → Outcome
 chain_start answer pages = outcome_of (raw_result answer) pages (none_zeroed (length pages))
 
 -- zeros in place of a bad page
-abbrev pub zeros_if_bad : List ℕ → List ℕ
-zeros_if_bad page = if is_bad page then zero_page else page
+abbrev pub zeros_if_bad : Bool → ℕ × List ℕ → List ℕ
+zeros_if_bad checksums x = if is_bad_block checksums x then zero_page else x.1
 
 -- a page is zeroed where it was before, or is bad now
-abbrev pub mark_if_bad : List ℕ × Bool → Bool
-mark_if_bad x = is_bad x.0 || x.1
+abbrev pub mark_if_bad : Bool → (ℕ × List ℕ) × Bool → Bool
+mark_if_bad checksums x = is_bad_block checksums x.0 || x.1
 
 -- all bad ones of these pages
-abbrev pub zeros_for_bad : List (List ℕ) → List (List ℕ)
-zeros_for_bad pages = map zeros_if_bad pages
+abbrev pub zeros_for_bad : Bool → ℕ → List (List ℕ) → List (List ℕ)
+zeros_for_bad checksums first pages = map (zeros_if_bad checksums) (with_blocks first pages)
 
-abbrev pub marks_for_bad : List (List ℕ) → List Bool → List Bool
-marks_for_bad pages zeroed = map mark_if_bad (zip pages zeroed)
+abbrev pub marks_for_bad : Bool → ℕ → List (List ℕ) → List Bool → List Bool
+marks_for_bad checksums first pages zeroed =
+    map (mark_if_bad checksums) (zip (with_blocks first pages) zeroed)
 
 -- how many of these pages are bad
-abbrev pub bad_among : List (List ℕ) → ℕ
-bad_among pages = count_by is_bad pages
+abbrev pub bad_among : Bool → ℕ → List (List ℕ) → ℕ
+bad_among checksums first pages = count_by (is_bad_block checksums) (with_blocks first pages)
 
 -- a warning that says how many pages were zeroed, if any was
 abbrev pub with_warning : ℕ → AioResult → AioResult
@@ -123,29 +134,32 @@ with_warning zero p = p
 with_warning (suc k) p = result_of 4 Warning (suc k) p.result
 
 -- the bad ones among the first n pages are set to zeros
-abbrev pub zeroed_first : ℕ → Outcome → Outcome
-zeroed_first n o = record {
-  result = with_warning (bad_among (take n o.pages)) o.result;
-  pages = zeros_for_bad (take n o.pages) ++ drop n o.pages;
-  zeroed = marks_for_bad (take n o.pages) (take n o.zeroed) ++ drop n o.zeroed;
+abbrev pub zeroed_first : Bool → ℕ → ℕ → Outcome → Outcome
+zeroed_first checksums first n o = record {
+  result = with_warning (bad_among checksums first (take n o.pages)) o.result;
+  pages = zeros_for_bad checksums first (take n o.pages) ++ drop n o.pages;
+  zeroed = marks_for_bad checksums first (take n o.pages) (take n o.zeroed) ++ drop n o.zeroed;
 }
 
 -- an error stays; else the bad pages among those that were read become zeros
-unfoldable pub after_zero : Outcome → Outcome
-after_zero o =
-    if is_error o.result.status then o else zeroed_first (natural_part o.result.result) o
+unfoldable pub after_zero : Bool → ℕ → Outcome → Outcome
+after_zero checksums first o =
+    if is_error o.result.status then o
+    else zeroed_first checksums first (natural_part o.result.result) o
 
--- what one callback makes of the outcome before it
-abbrev pub after_callback : ℕ → CallbackId → Outcome → Outcome
-after_callback count File o = record o { result = after_file count o.result }
-after_callback count Buffer o = record o { result = after_buffer o.pages o.result }
-after_callback count Count o = o
-after_callback count ZeroBuffer o = after_zero o
+-- what one callback makes of the outcome before it, in a read of so many blocks from the first on
+abbrev pub after_callback : Bool → ℕ → ℕ → CallbackId → Outcome → Outcome
+after_callback checksums first count File o = record o { result = after_file count o.result }
+after_callback checksums first count Buffer o =
+    record o { result = after_buffer checksums first o.pages o.result }
+after_callback checksums first count Count o = o
+after_callback checksums first count ZeroBuffer o = after_zero checksums first o
 
 -- the callbacks run from the last registered to the first
-abbrev pub chain_result : ℕ → List CallbackId → Outcome → Outcome
-chain_result count [] o = o
-chain_result count (id ∷ ids) o = after_callback count id (chain_result count ids o)
+abbrev pub chain_result : Bool → ℕ → ℕ → List CallbackId → Outcome → Outcome
+chain_result checksums first count [] o = o
+chain_result checksums first count (id ∷ ids) o =
+    after_callback checksums first count id (chain_result checksums first count ids o)
 
 abbrev pub is_file : CallbackId → Bool
 is_file File = true

@@ -1,5 +1,6 @@
 -- What the places of pages were told.
 use Rattle.std.specs.Prelude.{◌≡◌, ℕ, ◌+◌, List, ◌++◌, map, nat_lt, Option, Some, None, not, ◌&&◌}
+use Rattle.std.specs.Prelude.{Bool}
 use Rattle.std.specs.Prelude.{if◌then◌else◌}
 use Rattle.std.specs.List.{range_with_len}
 use Rattle.aio_word.specs.declared.WaitRef.{WaitRef}
@@ -10,6 +11,7 @@ use Rattle.aio_callback.specs.ReadIoView.{ReadIoView, record_page, record_zeroed
 pub record Finish : Type 0 where
   pub relation : ℕ
   pub block : ℕ
+  pub checksums : Bool
   pub reference : WaitRef
   pub page : Option (List ℕ)
 
@@ -26,6 +28,7 @@ abbrev pub one_finish : ReadIoView → ℕ → Finish
 one_finish r i = record {
   relation = r.relation;
   block = r.first + i;
+  checksums = r.checksums;
   reference = record_reference r;
   page = if nat_lt i (good_count r.ids r.result) && not (record_zeroed r i) then Some
       (record_page r i)

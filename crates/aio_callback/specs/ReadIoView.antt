@@ -1,6 +1,6 @@
 -- The record of a read, as contracts see it, and when it fits the contents of the relations.
 use Rattle.std.specs.Prelude.{◌≡◌, ◌≢◌, ℕ, ◌+◌, ◌≤◌, ◌<◌, Bool, true, false, List, [], ◌∷◌, map}
-use Rattle.std.specs.Prelude.{length, Option, Some, None, IfSome, slice_index_or}
+use Rattle.std.specs.Prelude.{length, Option, Some, None, IfSome, slice_index_or, cond}
 use Rattle.std.specs.Prelude.{replicate, pos}
 use Rattle.std.specs.List.{refill}
 use Rattle.page_check.specs.Told.{Told}
@@ -26,6 +26,8 @@ pub record ReadIoView : Type 0 where
   pub relation : ℕ
   pub first : ℕ
   pub count : ℕ
+  -- whether the checksums of its pages are verified when it has ended
+  pub checksums : Bool
   pub ids : List CallbackId
   pub aimed : Bool
   -- the raw answer that stands
@@ -44,13 +46,15 @@ number_of_id ZeroBuffer = 4
 
 -- what it is to read, and into how much room
 abbrev pub record_aim : ReadIoView → List ℕ
-record_aim r = length r.pages ∷ r.relation ∷ r.first ∷ r.count ∷ map number_of_id r.ids
+record_aim r =
+    length r.pages ∷ r.relation ∷ r.first ∷ r.count ∷ cond r.checksums 1 0 ∷ map number_of_id r.ids
 
 -- the records are to read the same blocks, with the same callbacks, and have as much room
 pub record ReadsAs (r s : ReadIoView) : Type 0 where
   pub relation : r.relation ≡ s.relation
   pub first : r.first ≡ s.first
   pub count : r.count ≡ s.count
+  pub checksums : r.checksums ≡ s.checksums
   pub ids : r.ids ≡ s.ids
   pub room : length r.pages ≡ length s.pages
 
@@ -76,7 +80,7 @@ pub record HasAnswer (told : Option Told) (r : ReadIoView) : Type 0 where
 -- ones
 abbrev pub AllGood : Option Told → ReadIoView → ℕ → Type 0
 AllGood told r good = (i : ℕ) → i < good
-    → IsGivenAs told r.relation (r.first + i) (record_page r i) (record_zeroed r i)
+    → IsGivenAs told r.checksums r.relation (r.first + i) (record_page r i) (record_zeroed r i)
 
 -- the read has ended: its result and its pages are those of its callbacks, for some answer and the
 -- pages that were read then
@@ -86,7 +90,7 @@ pub record IsCompletedRead (told : Option Told) (r : ReadIoView) : Type 0 where
   pub told_read : IsToldRead told r answer read
   pub class : r.label.ended ≡ class_of r.count answer
   pub outcome : outcome_of r.result r.pages r.zeroed
-      ≡ chain_result r.count r.ids (chain_start answer read)
+      ≡ chain_result r.checksums r.first r.count r.ids (chain_start answer read)
   pub few : good_count r.ids r.result ≤ r.count
   pub good : AllGood told r (good_count r.ids r.result)
 
@@ -104,6 +108,7 @@ new_record room = record {
   relation = 0;
   first = 0;
   count = 0;
+  checksums = false;
   ids = [];
   aimed = false;
   raw = None;
@@ -117,12 +122,13 @@ abbrev pub with_handle : ℕ → ℕ → ReadIoView → ReadIoView
 with_handle handle generation r = record r { label = bound_label handle generation; raw = None }
 
 -- after `aim`: nothing has ended, and no answer stands
-abbrev pub with_aim : ℕ → ℕ → ℕ → List CallbackId → ReadIoView → ReadIoView
-with_aim relation first count ids r = record r {
+abbrev pub with_aim : ℕ → ℕ → ℕ → Bool → List CallbackId → ReadIoView → ReadIoView
+with_aim relation first count checksums ids r = record r {
   label = bound_label r.label.handle r.label.generation;
   relation = relation;
   first = first;
   count = count;
+  checksums = checksums;
   ids = ids;
   aimed = true;
   raw = None;
@@ -143,7 +149,7 @@ with_outcome r o class = record r {
 
 abbrev pub after_shared : ReadIoView → Raw → ReadIoView
 after_shared r answer =
-    with_outcome r (chain_result r.count r.ids (chain_start answer r.pages))
+    with_outcome r (chain_result r.checksums r.first r.count r.ids (chain_start answer r.pages))
     (class_of r.count answer)
 
 abbrev pub IsAfterShared : ReadIoView → ReadIoView → Raw → Type 0

@@ -38,10 +38,12 @@ pub data IsStreamOutcome (zero : Bool) (told : Option Told) (r : ReadIoView) : T
       → (r.label.ended ≡ class_of r.count (Read n)) → IsStreamOutcome zero told r
   -- the page behind the first i is bad
   Invalid : (i : ℕ) → zero ≡ false → (r.result ≡ result_of 2 Error i (pos i)) → i < r.count
-      → IfSome told (λ t. found_at t r.relation (r.first + i) ≡ Damaged) → IsStreamOutcome zero told r
+      → IfSome told (λ t. found_at r.checksums t r.relation (r.first + i) ≡ Damaged)
+      → IsStreamOutcome zero told r
   -- the read failed
   Unread : (r.result ≡ result_of 1 Error 1 (pos 0)) → (r.label.ended ≡ class.Failed)
       → IsStreamOutcome zero told r
   -- the relation ends at or before the first block
   PastEnd : (r.result ≡ result_of 1 Error 2 (pos 0)) → (r.label.ended ≡ class.Short)
-      → IfSome told (λ t. found_at t r.relation r.first ≡ Absent) → IsStreamOutcome zero told r
+      → IfSome told (λ t. found_at r.checksums t r.relation r.first ≡ Absent)
+      → IsStreamOutcome zero told r

@@ -1,5 +1,5 @@
 //! The callbacks of a read, and the chain of them.
-ghost use Rattle.std.specs.Prelude.{◌≡◌, ◌≤◌, length, pos};
+ghost use Rattle.std.specs.Prelude.{◌≡◌, ◌≤◌, ◌<◌, ◌+◌, ◌^◌, length, pos, IfSome};
 ghost use Rattle.aio_callback.specs.Chain.{natural_part, is_bad, first_bad, is_error, raw_result};
 ghost use Rattle.aio_callback.specs.Chain.{class_of, IsWithin, after_file, after_buffer};
 ghost use Rattle.aio_callback.specs.Chain.{outcome_of, after_zero, after_callback, chain_result};
@@ -8,7 +8,7 @@ ghost use Rattle.aio_callback.specs.Chain.{has_file, has_check_behind_file};
 
 use aio_result::{AioResult, Status};
 use aio_word::Class;
-use page_check::{Page, Verdict, check};
+use page_check::{Page, Verdict, check_as};
 
 /// What runs when a read has ended (`PgAioHandleCallbackID` of `aio.h`). A record names its
 /// callbacks in the order of registration; they run from the last to the first.
@@ -103,16 +103,23 @@ fn run_file(count: u32, before: AioResult) -> AioResult
     }
 }
 
-fn is_bad_page(page: &Page) -> bool
-    ensures { result ≡ is_bad page.now }
+fn is_bad_page(page: &Page, block: u32, checksums: bool) -> bool
+    ensures { result ≡ is_bad checksums block page.now }
 {
-    matches!(check(page), Verdict::Bad)
+    matches!(check_as(page, block, checksums), Verdict::Bad)
 }
 
-fn first_bad_page(pages: &[Page]) -> Option<usize>
-    ensures { result ≡ first_bad pages.now }
+fn first_bad_page(pages: &[Page], first: u32, checksums: bool) -> Option<usize>
+    requires in_range { first + length pages.now ≤ 2 ^ 32 }
+    ensures value { result ≡ first_bad checksums first pages.now }
+    ensures within { IfSome result (λ place. place < length pages.now) }
 {
-    pages.iter().position(|page| is_bad_page(page))
+    for index in 0..pages.len() {
+        if is_bad_page(&pages[index], first + index as u32, checksums) {
+            return Some(index);
+        }
+    }
+    None
 }
 
 fn is_error_status(status: Status) -> bool
@@ -122,16 +129,17 @@ fn is_error_status(status: Status) -> bool
 }
 
 #[tactic(auto, unfolding(crate::specs::Chain::after_buffer))]
-fn run_buffer(pages: &[Page], before: AioResult) -> AioResult
+fn run_buffer(pages: &[Page], first: u32, checksums: bool, before: AioResult) -> AioResult
     requires many { length pages.now ≤ 128 }
     requires within { natural_part before.result ≤ length pages.now }
-    ensures { result ≡ after_buffer pages.now before }
+    requires in_range { first + natural_part before.result ≤ 2 ^ 32 }
+    ensures { result ≡ after_buffer checksums first pages.now before }
 {
     if is_error_status(before.status) {
         return before;
     }
     let read = number(before.result) as usize;
-    match first_bad_page(&pages[..read]) {
+    match first_bad_page(&pages[..read], first, checksums) {
         Some(bad) => AioResult {
             id: CallbackId::Buffer as u8,
             status: Status::Error,
@@ -143,11 +151,11 @@ fn run_buffer(pages: &[Page], before: AioResult) -> AioResult
 }
 
 // Sets a bad page to zeros, and says whether it was bad.
-fn zero_if_bad(page: &mut Page) -> bool
-    ensures bad { result ≡ is_bad page.old }
-    ensures zeros { page.new ≡ zeros_if_bad page.old }
+fn zero_if_bad(page: &mut Page, block: u32, checksums: bool) -> bool
+    ensures bad { result ≡ is_bad checksums block page.old }
+    ensures zeros { page.new ≡ zeros_if_bad checksums (block, page.old) }
 {
-    let bad = is_bad_page(page);
+    let bad = is_bad_page(page, block, checksums);
     if bad {
         page.bytes_mut().fill(0);
     }
@@ -155,16 +163,17 @@ fn zero_if_bad(page: &mut Page) -> bool
 }
 
 // Sets the bad ones of these pages to zeros, and counts them.
-fn zero_bad_pages(pages: &mut [Page], zeroed: &mut [bool]) -> u32
+fn zero_bad_pages(pages: &mut [Page], zeroed: &mut [bool], first: u32, checksums: bool) -> u32
     requires many { length pages.old ≤ 128 }
     requires marks { length zeroed.old ≡ length pages.old }
-    ensures count { result ≡ bad_among pages.old }
-    ensures pages { pages.new ≡ zeros_for_bad pages.old }
-    ensures zeroed { zeroed.new ≡ marks_for_bad pages.old zeroed.old }
+    requires in_range { first + length pages.old ≤ 2 ^ 32 }
+    ensures count { result ≡ bad_among checksums first pages.old }
+    ensures pages { pages.new ≡ zeros_for_bad checksums first pages.old }
+    ensures zeroed { zeroed.new ≡ marks_for_bad checksums first pages.old zeroed.old }
 {
     let mut count = 0;
     for index in 0..pages.len() {
-        if zero_if_bad(&mut pages[index]) {
+        if zero_if_bad(&mut pages[index], first + index as u32, checksums) {
             zeroed[index] = true;
             count += 1;
         }
@@ -173,19 +182,26 @@ fn zero_bad_pages(pages: &mut [Page], zeroed: &mut [bool]) -> u32
 }
 
 #[tactic(auto, unfolding(crate::specs::Chain::after_zero))]
-fn run_zero(pages: &mut [Page], zeroed: &mut [bool], before: AioResult) -> AioResult
+fn run_zero(
+    pages: &mut [Page],
+    zeroed: &mut [bool],
+    first: u32,
+    checksums: bool,
+    before: AioResult,
+) -> AioResult
     requires many { length pages.old ≤ 128 }
     requires marks { length zeroed.old ≡ length pages.old }
     requires within { natural_part before.result ≤ length pages.old }
+    requires in_range { first + natural_part before.result ≤ 2 ^ 32 }
     ensures { outcome_of result pages.new zeroed.new
-        ≡ after_zero (outcome_of before pages.old zeroed.old) }
+        ≡ after_zero checksums first (outcome_of before pages.old zeroed.old) }
 {
     let failed = is_error_status(before.status);
     if failed {
         return before;
     }
     let read = number(before.result) as usize;
-    match zero_bad_pages(&mut pages[..read], &mut zeroed[..read]) {
+    match zero_bad_pages(&mut pages[..read], &mut zeroed[..read], first, checksums) {
         0 => before,
         count => AioResult {
             id: CallbackId::ZeroBuffer as u8,
@@ -199,6 +215,8 @@ fn run_zero(pages: &mut [Page], zeroed: &mut [bool], before: AioResult) -> AioRe
 #[tactic(auto, using(crate::proofs::ChainLowersResult::file_below, crate::proofs::ChainLowersResult::buffer_below))]
 fn run_callback(
     id: CallbackId,
+    checksums: bool,
+    first: u32,
     count: u32,
     pages: &mut [Page],
     zeroed: &mut [bool],
@@ -207,42 +225,46 @@ fn run_callback(
     requires many { length pages.old ≤ 128 }
     requires marks { length zeroed.old ≡ length pages.old }
     requires within { natural_part before.result ≤ length pages.old }
+    requires in_range { first + natural_part before.result ≤ 2 ^ 32 }
     ensures value { outcome_of result pages.new zeroed.new
-        ≡ after_callback count id (outcome_of before pages.old zeroed.old) }
+        ≡ after_callback checksums first count id (outcome_of before pages.old zeroed.old) }
     ensures below { natural_part result.result ≤ natural_part before.result }
     ensures room { (length pages.new ≡ length pages.old)
         × (length zeroed.new ≡ length zeroed.old) }
 {
     match id {
         CallbackId::File => run_file(count, before),
-        CallbackId::Buffer => run_buffer(pages, before),
+        CallbackId::Buffer => run_buffer(pages, first, checksums, before),
         CallbackId::Count => before,
-        CallbackId::ZeroBuffer => run_zero(pages, zeroed, before),
+        CallbackId::ZeroBuffer => run_zero(pages, zeroed, first, checksums, before),
     }
 }
 
 // Runs the callbacks, from the last to the first.
 pub(crate) fn run_chain(
     ids: &[CallbackId],
+    checksums: bool,
+    first: u32,
     count: u32,
     pages: &mut [Page],
     zeroed: &mut [bool],
-    first: AioResult,
+    raw: AioResult,
 ) -> AioResult
     requires many { length pages.old ≤ 128 }
     requires marks { length zeroed.old ≡ length pages.old }
-    requires within { natural_part first.result ≤ length pages.old }
+    requires within { natural_part raw.result ≤ length pages.old }
+    requires in_range { first + natural_part raw.result ≤ 2 ^ 32 }
     ensures value { outcome_of result pages.new zeroed.new
-        ≡ chain_result count ids.now (outcome_of first pages.old zeroed.old) }
-    ensures below { natural_part result.result ≤ natural_part first.result }
+        ≡ chain_result checksums first count ids.now (outcome_of raw pages.old zeroed.old) }
+    ensures below { natural_part result.result ≤ natural_part raw.result }
     ensures room { (length pages.new ≡ length pages.old)
         × (length zeroed.new ≡ length zeroed.old) }
 {
     match ids {
-        [] => first,
+        [] => raw,
         [id, others @ ..] => {
-            let before = run_chain(others, count, pages, zeroed, first);
-            run_callback(*id, count, pages, zeroed, before)
+            let before = run_chain(others, checksums, first, count, pages, zeroed, raw);
+            run_callback(*id, checksums, first, count, pages, zeroed, before)
         }
     }
 }

@@ -16,19 +16,21 @@ pub trait Places<W: World> {
     /// The read of a block is over (`TerminateBufferIO` of `bufmgr.c`).
     ///
     /// `reference` names the I/O that read it. `page` is the page of the block, where that was read
-    /// and is valid, and lent for the call alone.
+    /// and is valid, by its checksum too where `checksums` says so, and lent for the call alone.
     fn finish<T: Wait>(
         &mut self,
         rt: &T,
         relation: u32,
         block: u32,
+        checksums: bool,
         reference: WaitRef,
         page: Option<&Page>,
     )
-        requires page { IfSome page (λ p. IsGood W.told relation block p.now) }
+        requires page { IfSome page (λ p. IsGood W.told checksums relation block p.now) }
         ensures finished { FinishesGrew (finished self.old) (finished self.new) (record {
           relation = relation;
           block = block;
+          checksums = checksums;
           reference = reference;
           page = option_map (λ p. p.now) page.entry;
         } ∷ []) };
@@ -48,6 +50,7 @@ impl<W: World> Places<W> for NoPlaces {
         _rt: &T,
         _relation: u32,
         _block: u32,
+        _checksums: bool,
         _reference: WaitRef,
         _page: Option<&Page>,
     ) {}

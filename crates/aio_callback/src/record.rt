@@ -36,6 +36,7 @@ pub struct ReadIo {
     relation: u32,
     first: u32,
     count: u32,
+    checksums: bool,
     ids: [CallbackId; 4],
     id_count: usize,
     aimed: bool,
@@ -63,6 +64,7 @@ impl Model for ReadIo {
       relation = r.relation;
       first = r.first;
       count = r.count;
+      checksums = r.checksums;
       ids = take r.id_count r.ids;
       aimed = r.aimed;
       raw = r.raw;
@@ -158,6 +160,7 @@ impl ReadIo {
             relation: 0,
             first: 0,
             count: 0,
+            checksums: false,
             ids: [CallbackId::Count; 4],
             id_count: 0,
             aimed: false,
@@ -174,7 +177,8 @@ impl ReadIo {
         })
     }
 
-    /// Says what is to be read, `count` blocks from `first` on, and which callbacks are to run.
+    /// Says what is to be read, `count` blocks from `first` on, whether the checksums of their pages
+    /// are verified, and which callbacks are to run.
     ///
     /// `count` is 1 to the record's room, and no block is above the last number of a block. After
     /// `Ok` nothing has ended and no answer stands. More than 4 callbacks are refused, and then the
@@ -184,13 +188,14 @@ impl ReadIo {
         relation: u32,
         first: u32,
         count: u32,
+        checksums: bool,
         ids: &[CallbackId],
     ) -> Result<(), TooMany>
         requires some { 1 ≤ count }
         requires room { count ≤ length self.old.pages }
         requires in_range { first + count ≤ 2 ^ 32 }
         ensures ok { IfOk result (λ _. (length ids.now ≤ 4)
-            × (self.new ≡ with_aim relation first count ids.now self.old)) }
+            × (self.new ≡ with_aim relation first count checksums ids.now self.old)) }
         ensures err { IfErr result (λ e. (e.0 ≡ length ids.now) × (4 < length ids.now)
             × (self.new ≡ self.old)) }
     {
@@ -201,6 +206,7 @@ impl ReadIo {
         self.relation = relation;
         self.first = first;
         self.count = count;
+        self.checksums = checksums;
         self.ids[..ids.len()].copy_from_slice(ids);
         self.id_count = ids.len();
         self.aimed = true;
@@ -282,7 +288,7 @@ impl ReadIo {
         requires good { index < good_count self.now.ids self.now.result }
         ensures value { result.now ≡ record_page self.now index }
         ensures given { (told : Option Told) (relations : ℕ) → ReadFits told relations self.now
-            → IsGivenAs told self.now.relation (self.now.first + index) result.now
+            → IsGivenAs told self.now.checksums self.now.relation (self.now.first + index) result.now
             (record_zeroed self.now index) }
     {
         &self.pages[index as usize]

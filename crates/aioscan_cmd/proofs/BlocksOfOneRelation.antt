@@ -8,6 +8,7 @@ use Rattle.std.proofs.lemmas.List.{get_or-map, length-map}
 use Rattle.std.proofs.lemmas.List.Elements.{All-drop, All-filter, All-map, All-same, All-tail}
 use Rattle.std.proofs.lemmas.List.Elements.{All-take}
 use Rattle.page_check.specs.SynchronousAnswer.{Reader, entry_given, readable_pages, read_count}
+use Rattle.page_check.specs.SynchronousAnswer.{Reading, Known, Unknown}
 use Rattle.page_check.specs.IsAnswer.{AreFirst}
 use Rattle.heap_scan.specs.Job.{block_entry}
 use Rattle.heap_scan.specs.Listing.{TextOf, listing, text_for}
@@ -48,15 +49,15 @@ All-front P xs ys all joined holds =
     (sym (ap (take (length xs)) joined ∙ take-append_seam xs ys)) (All-take P (length xs) all holds)
 
 -- the pages of entries of one relation
-pub pages_are_of : (r : ℕ) (found : Option Reader) (entries : List Request) (pages : List Page)
+pub pages_are_of : (r : ℕ) (found : Reading) (entries : List Request) (pages : List Page)
     → AreOf r entries → AreFirst found entries pages → ArePagesOf r pages
-pages_are_of r None entries pages all first =
+pages_are_of r (Unknown checksums) entries pages all first =
     (let P : Request → Type 0 = λ e. e.relation ≡ r in
     let entry : Page → Request = λ g. g.entry in
     let given = All-front P (map entry pages) first.1.0 entries first.1.1 all in
     λ k d below. subst P (get_or-map entry pages k d (entry d) below)
     (given k (entry d) (omega (arith, length-map pages entry))))
-pages_are_of r (Some f) entries pages all first =
+pages_are_of r (Known f) entries pages all first =
     let P : Page → Type 0 = λ g. g.entry.relation ≡ r in
     let n = read_count f entries in
     All-front P pages first.0 (readable_pages f entries) first.1

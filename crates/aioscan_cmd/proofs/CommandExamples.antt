@@ -26,6 +26,7 @@ any_settings = record {
   batch = false;
   full = false;
   segment = 131072;
+  checksums = false;
   zero = false;
   tuples = false;
 }

@@ -56,7 +56,7 @@ module _ (t : Told) (n : ℕ) (c : Command) (b a : ObservedState) where
   m = command_format c
 
   abbrev found : Reader
-  found = zeroing m.zero (found_at t)
+  found = zeroing m.rules.zero (found_at m.rules.checksums t)
 
   abbrev map_page : ℕ → List ℕ
   map_page block = found_page (found 1 block)

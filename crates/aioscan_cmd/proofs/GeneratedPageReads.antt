@@ -61,12 +61,13 @@ quiet_from start m zero = refl
 quiet_from start zero (suc k) = refl
 quiet_from start (suc m) (suc k) = quiet_from (start + 1) m k
 
-module _ (z : Bool) (n : ℕ) (few : n ≤ 4096) where
+module _ (z checksums : Bool) (off : checksums ≡ false) (n : ℕ) (few : n ≤ 4096) where
   abbrev f : Reader
-  f = zeroing z (found_at (generated_told n))
+  f = zeroing z (found_at checksums (generated_told n))
 
   found_here : (block : ℕ) → block < n → f 0 block ≡ FoundPage (generated_page block)
-  found_here block below = valid_either z _ _ (found_of_generated n block few below)
+  found_here block below =
+      valid_either z _ _ (rw off (found_of_generated n block few below))
 
   pages_from : (start m : ℕ) → start + m ≤ n
       → readable_pages f (block_range 0 start m) ≡ givens start m
@@ -103,7 +104,7 @@ module _ (z : Bool) (n : ℕ) (few : n ≤ 4096) where
 
   -- the sums of a run that listed all blocks, with their tuples or without
   pub generated_sums : (tuples : Bool) (sums : PageSums)
-      → HasSums (list_options z tuples) (Some (generated_told n)) requests sums
+      → HasSums (list_options (record { checksums = checksums; zero = z }) tuples) (Some (generated_told n)) requests sums
       → sums ≡ sums_of (readable_pages f requests)
   generated_sums tuples sums has = has ∙ saturated_if_fitting _ fit_pages
 

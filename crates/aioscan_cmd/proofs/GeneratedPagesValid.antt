@@ -9,6 +9,7 @@ use Rattle.std.proofs.lemmas.List.{take_at, length-replicate}
 use Rattle.page_check.specs.Fields.{header_of, u16_at, u32_at}
 use Rattle.page_check.specs.Told.{block_contents, relation_page, block_count, relation_block_count}
 use Rattle.page_check.proofs.Segments.{blocks_of_one, page_of_first}
+use Rattle.page_check.proofs.VerifiedPages.{verdict_as-off}
 use Rattle.page_check.specs.Verdict.{verdict_of}
 use Rattle.page_check.specs.LinePointers.{line_pointer_count}
 use Rattle.page_check.specs.declared.verdict.Verdict.{Verdict}
@@ -144,11 +145,11 @@ page_of_generated pages block below =
 
 -- and each gives its page
 pub found_of_generated : (pages block : ℕ) → pages ≤ 4096 → block < pages
-    → found_at (generated_told pages) 0 block ≡ FoundPage (generated_page block)
+    → found_at false (generated_told pages) 0 block ≡ FoundPage (generated_page block)
 unfolding found_at
 found_of_generated pages block few below =
     let count = generated_block_count pages few in
     let inside : nat_le pages block ≡ false = grind (arith, nat_tests) in
-    rw (count, inside, page_of_generated pages block below)
+    rw (count, inside, page_of_generated pages block below, verdict_as-off block (generated_page block))
     (found_valid (verdict_of (generated_page block)) (generated_page block)
     (generated_page_valid block))

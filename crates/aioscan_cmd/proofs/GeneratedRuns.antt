@@ -59,7 +59,7 @@ module _ (z : Bool) (n : ℕ) (few : n ≤ 4096) where
   abbrev text : List ℕ
   text =
       summary_line (sums_of (readable_pages
-      (zeroing z (found_at (generated_told n))) (block_range 0 0 n)))
+      (zeroing z (found_at false (generated_told n))) (block_range 0 0 n)))
 
   -- the one relation of generated pages is not too long
   pub generated_fits : EarlierFit (length_limit 131072) (relation_block_count (generated_told n)) 1
@@ -77,11 +77,11 @@ module _ (z : Bool) (n : ℕ) (few : n ≤ 4096) where
     in_order = by_end (λ x. FitsInOrder (length_limit 131072)
         (relation_block_count (generated_told n)) 1 x) generated_fits generated_fits tt o ends;
     writes = by_end (λ x. OutputGrew x b a text → RunWrites (generated_run z n) b a x)
-        (λ all. (generated_outcome_done z n few, all)) (λ cut. cut) (λ cut. cut) o ends grew;
+        (λ all. (generated_outcome_done z false refl n few, all)) (λ cut. cut) (λ cut. cut) o ends grew;
     reads = refl;
     no_warnings = none;
     warnings_are = by_end (λ x. IsWarned (generated_run z n) b a x w)
-        (none ∙ sym (all_quiet z n few)) none none o ends;
+        (none ∙ sym (all_quiet z false refl n few)) none none o ends;
   }
 
 -- there was no memory

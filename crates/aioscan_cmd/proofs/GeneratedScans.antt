@@ -1,6 +1,6 @@
 -- A scan of the shelf of generated pages lists them all, or finds no memory.
 use Rattle.std.proofs.Common.{◌≡◌, ◌≢◌, ◌⊎◌, ℕ, ◌-◌, List, ◌∷◌, length, ap, subst, ◌∙◌}
-use Rattle.std.proofs.Common.{arith, inl, inr, append-nil, [], take, true}
+use Rattle.std.proofs.Common.{arith, inl, inr, append-nil, [], take, true, false, Bool}
 use Rattle.std.specs.Prelude.{Option, Some}
 use Rattle.page_check.specs.Told.{Told, relation_block_count}
 use Rattle.page_check.specs.SynchronousAnswer.{found_at, readable_pages, first_stop, found_page}
@@ -78,11 +78,11 @@ module _ (n : ℕ) (c : Command) (is : AsksForGeneratedPages n c) where
         → ¬ CountRose before.faults now.faults → ¬ CountRose wb wn → (o ≡ Done) ⊎ (o ≡ NoMemory)
     all_listed before now wb wn causes words sure lengths reads failed =
         let run = file_run (generated_told n) c in
-        let found = zeroing c.settings.zero (found_at (generated_told n)) in
+        let found = zeroing c.settings.zero (found_at c.settings.checksums (generated_told n)) in
         let done : run.outcome ≡ Done =
         ap (λ (l : List Request). outcome_of_stop found (first_stop found l))
         (generated_list (λ block. found_page (found 1 block)))
-        ∙ generated_outcome_done c.settings.zero n is.3 in
+        ∙ generated_outcome_done c.settings.zero c.settings.checksums is.5 n is.3 in
         elim (faultless run b.written a.written o words sure
         (λ r is. lengths (causes.no_length r is)) (λ r k is. reads (causes.unread r k is))
         (λ is. failed (causes.cannot_write is)) ran_here.in_order
@@ -95,27 +95,30 @@ module _ (n : ℕ) (c : Command) (is : AsksForGeneratedPages n c) where
     -- and has warned of nothing
     pub none_to_warn : (o ≡ Done) ⊎ (o ≡ NoMemory) → w ≡ []
     none_to_warn ends =
-        let found = zeroing c.settings.zero (found_at (generated_told n)) in
+        let found = zeroing c.settings.zero (found_at c.settings.checksums (generated_told n)) in
         let run = file_run (generated_told n) c in
         let said = is_warned (generated_told n) _ c b a o w ran_here in
         let Q : Outcome → Type 0 = λ x. IsWarned run b.written a.written x w in elim ends [
           | inl done ↦ subst Q done said
               ∙ ap (λ (l : List Request). warnings_of (readable_pages found l))
               (generated_list (λ block. found_page (found 1 block)))
-              ∙ all_quiet c.settings.zero n is.3
+              ∙ all_quiet c.settings.zero c.settings.checksums is.5 n is.3
           | inr memory ↦ let cut = subst Q memory said in
               cut.warnings_are
               ∙ ap (λ (l : List Request). warnings_of (take cut.k (readable_pages found l)))
               (generated_list (λ block. found_page (found 1 block)))
-              ∙ none_warned c.settings.zero n is.3 cut.k
+              ∙ none_warned c.settings.zero c.settings.checksums is.5 n is.3 cut.k
         ]
 
   pub listed_sums_generated : (told : Option Told) (o : Outcome) (sums : PageSums)
       → told ≡ Some (generated_told n) → o ≡ Done → HasSumsTold told c o sums
-      → sums ≡ sums_of (readable_pages (zeroing c.settings.zero (found_at (generated_told n)))
+      → sums ≡ sums_of (readable_pages (zeroing c.settings.zero (found_at false (generated_told n)))
       (block_range 0 0 n))
   listed_sums_generated told o sums told_is done has =
       let Q : List Request → Type 0 =
       λ l. HasSums (options_of_settings c.settings) (Some (generated_told n)) l sums in
-      generated_sums c.settings.zero n is.3 c.settings.tuples sums
-      (subst Q generated_requests (rw told_is at (has done is.4)))
+      let S : Bool → Type 0 = λ checksums. sums ≡ sums_of (readable_pages
+      (zeroing c.settings.zero (found_at checksums (generated_told n))) (block_range 0 0 n)) in
+      subst S is.5
+      (generated_sums c.settings.zero c.settings.checksums is.5 n is.3 c.settings.tuples sums
+      (subst Q generated_requests (rw told_is at (has done is.4))))

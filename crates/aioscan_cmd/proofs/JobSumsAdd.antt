@@ -104,7 +104,7 @@ summed_told m (Some t) parts b a o s w done listed =
     let all = subst P done listed in
     let answer = all.lists.answer in
     let end = answer.answers.endings.0 in
-    let pages = all_given (zeroing m.zero (found_at t)) (blocks_of_parts parts) answer.pages
+    let pages = all_given (zeroing m.rules.zero (found_at m.rules.checksums t)) (blocks_of_parts parts) answer.pages
     answer.answers.first end.0 in
     all.sums_grew no_sums refl
     ∙ ap saturated_sums (same_sums _ all.lists.sums (omega arith) (omega arith) (omega arith)

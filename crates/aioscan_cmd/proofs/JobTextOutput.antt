@@ -8,9 +8,10 @@ use Rattle.std.proofs.lemmas.Option.{get_or_from_slice_get, slice_get_within}
 use Rattle.std.proofs.lemmas.List.Sums.{sum_by-cons}
 use Rattle.page_check.specs.Told.{Told}
 use Rattle.page_check.specs.SynchronousAnswer.{Reader, Found, Page as FoundPage, Zeroed, Damaged}
+use Rattle.page_check.specs.SynchronousAnswer.{Reading, Known, Unknown}
 use Rattle.page_check.specs.SynchronousAnswer.{Absent, Ending, End, Invalid as SaidInvalid}
 use Rattle.page_check.specs.SynchronousAnswer.{PastEnd as SaidPastEnd, entry_found, found_ending}
-use Rattle.page_check.specs.SynchronousAnswer.{stop_ending, first_stop, reader_of}
+use Rattle.page_check.specs.SynchronousAnswer.{stop_ending, first_stop, reading_of}
 use Rattle.page_check.specs.SynchronousAnswer.{entry_given, read_count}
 use Rattle.page_check.specs.IsAnswer.{AreFirst, EndsAt, IsEnding, OneEnding}
 use Rattle.page_check.proofs.AnswersOfLists.{first_stop-length}
@@ -67,16 +68,16 @@ stop_entry f end b at early None is = absurd (early is)
 stop_entry f end b at early (Some e) is = (e, refl, at (entry_found f e) e.block is)
 
 -- there are no more pages than blocks
-pages_few : (found : Option Reader) (blocks : List Request) (pages : List Page)
+pages_few : (found : Reading) (blocks : List Request) (pages : List Page)
     → AreFirst found blocks pages → length pages ≤ length blocks
-pages_few None blocks pages first =
+pages_few (Unknown checksums) blocks pages first =
     omega (
       arith,
       ap length first.1.1,
       length-append (map (λ (g : Page). g.entry) pages) first.1.0,
       length-map pages (λ (g : Page). g.entry),
     )
-pages_few (Some f) blocks pages first =
+pages_few (Known f) blocks pages first =
     let n = read_count f blocks in
     omega (
       arith,
@@ -87,19 +88,19 @@ pages_few (Some f) blocks pages first =
     )
 
 module _ (r : ℕ) (blocks : List Request) (all_of : AreOf r blocks) where
-  invalid_here : (found : Option Reader) (k b : ℕ) → EndsAt found blocks k (SaidInvalid b)
+  invalid_here : (found : Reading) (k b : ℕ) → EndsAt found blocks k (SaidInvalid b)
       → slice_get blocks k ≡ Some (request r b)
-  invalid_here None k b ends = entry_here r blocks all_of k b ends.next ends.here ends.named
-  invalid_here (Some f) k b ends =
+  invalid_here (Unknown checksums) k b ends = entry_here r blocks all_of k b ends.next ends.here ends.named
+  invalid_here (Known f) k b ends =
       let stop = stop_entry f (SaidInvalid b) b (λ x n. damaged_at x n b) (λ e. cc)
       (first_stop f blocks) ends.1 in
       entry_here r blocks all_of k b stop.0
       (ap (slice_get blocks) ends.0 ∙ sym (first_stop-length f blocks) ∙ stop.1) stop.2
 
-  missing_here : (found : Option Reader) (k b : ℕ) → EndsAt found blocks k (SaidPastEnd b)
+  missing_here : (found : Reading) (k b : ℕ) → EndsAt found blocks k (SaidPastEnd b)
       → slice_get blocks k ≡ Some (request r b)
-  missing_here None k b ends = entry_here r blocks all_of k b ends.next ends.here ends.named
-  missing_here (Some f) k b ends =
+  missing_here (Unknown checksums) k b ends = entry_here r blocks all_of k b ends.next ends.here ends.named
+  missing_here (Known f) k b ends =
       let stop = stop_entry f (SaidPastEnd b) b (λ x n. absent_at x n b) (λ e. cc)
       (first_stop f blocks) ends.1 in
       entry_here r blocks all_of k b stop.0
@@ -109,7 +110,7 @@ module _ (r : ℕ) (blocks : List Request) (all_of : AreOf r blocks) where
       (b a : Option (List ℕ)) where
     abbrev Answer : Option Ending → Type 0
     Answer end =
-        IsJobAnswer m.text_of (reader_of m.zero told) (λ _. ⊤) blocks text warnings sums
+        IsJobAnswer m.text_of (reading_of m.rules told) (λ _. ⊤) blocks text warnings sums
         end
 
     abbrev texts : List Page → List ℕ
@@ -123,7 +124,7 @@ module _ (r : ℕ) (blocks : List Request) (all_of : AreOf r blocks) where
     alone = append-nil blocks
 
     abbrev as_part : (end : Option Ending) → Answer end
-        → IsJobAnswer m.text_of (reader_of m.zero told) (λ _. ⊤) (blocks_of_parts (blocks ∷ []))
+        → IsJobAnswer m.text_of (reading_of m.rules told) (λ _. ⊤) (blocks_of_parts (blocks ∷ []))
         text warnings sums end
     as_part end answer = with_blocks m told blocks (blocks_of_parts (blocks ∷ [])) text warnings
         sums end (sym alone) answer
@@ -132,7 +133,7 @@ module _ (r : ℕ) (blocks : List Request) (all_of : AreOf r blocks) where
     listed_whole : (o : Outcome) → is_refused o ≡ false → (answer : Answer (outcome_ending o))
         → ((e : Request) → named_block o ≡ Some e
         → slice_get blocks (length answer.pages) ≡ Some e)
-        → OutputGrew o b a text → SinkGrew b a text → (m.zero ≡ false → warnings ≡ [])
+        → OutputGrew o b a text → SinkGrew b a text → (m.rules.zero ≡ false → warnings ≡ [])
         → (is_output_cut_off o ≡ true → o ≡ NoMemory) → Listed o warnings
     listed_whole o begun answer here grew all quiet memory =
         let n = length answer.pages in
@@ -159,17 +160,17 @@ module _ (r : ℕ) (blocks : List Request) (all_of : AreOf r blocks) where
         )
 
     pub text_listed : (end : JobEnding) → Answer (answered_ending end) → SinkGrew b a text
-        → (m.zero ≡ false → warnings ≡ []) → Listed (outcome_of_ending r end) warnings
+        → (m.rules.zero ≡ false → warnings ≡ []) → Listed (outcome_of_ending r end) warnings
     text_listed ending.Pages answer grew quiet =
         listed_whole (outcome_of_ending r ending.Pages) refl answer
         (λ e is. absurd (cc)) grew grew quiet (λ is. absurd (cc))
     text_listed (ending.Invalid n) answer grew quiet =
         listed_whole (outcome_of_ending r (ending.Invalid n)) refl answer
-        (λ e is. (invalid_here (reader_of m.zero told) (length answer.pages) n
+        (λ e is. (invalid_here (reading_of m.rules told) (length answer.pages) n
         answer.answers.endings.0 ∙ is)) grew grew quiet (λ is. absurd (cc))
     text_listed (ending.PastEnd n) answer grew quiet =
         listed_whole (outcome_of_ending r (ending.PastEnd n)) refl answer
-        (λ e is. (missing_here (reader_of m.zero told) (length answer.pages) n
+        (λ e is. (missing_here (reading_of m.rules told) (length answer.pages) n
         answer.answers.endings.0 ∙ is)) grew grew quiet (λ is. absurd (cc))
     text_listed (ending.Unread n) answer grew quiet =
         listed_whole (outcome_of_ending r (ending.Unread n)) refl answer
@@ -185,7 +186,7 @@ module _ (r : ℕ) (blocks : List Request) (all_of : AreOf r blocks) where
         → Answer kept
     without_end kept none end answer =
         let P : Option Ending → Type 0 = λ e. OneEnding
-        (IsEnding (reader_of m.zero told) (λ _. ⊤) blocks (length answer.pages)) (endings_of e) in
+        (IsEnding (reading_of m.rules told) (λ _. ⊤) blocks (length answer.pages)) (endings_of e) in
         record {
           pages = answer.pages;
           text_is = answer.text_is;
@@ -199,7 +200,7 @@ module _ (r : ℕ) (blocks : List Request) (all_of : AreOf r blocks) where
         → OutputGrew o b a text
         → text ≢ [] → SinkGrewByPrefix b a text → Listed o []
     unwritten o end begun cut stops ends answer grew some first =
-        let few = pages_few (reader_of m.zero told) blocks answer.pages answer.answers.first in (
+        let few = pages_few (reading_of m.rules told) blocks answer.pages answer.answers.first in (
           record {
             not_refused = begun;
             text = text;

@@ -18,6 +18,7 @@ use Rattle.aioscan_cmd.specs.declared.report.Outcome.TheVariants.{NoMemory, TooL
 use Rattle.aioscan_cmd.proofs.OutputsAppend.{lists_same}
 use Rattle.aioscan_cmd.proofs.FileRequestsAppend.{request_parts-same}
 use Rattle.aioscan_cmd.proofs.PartsOfRequests.{request_blocks}
+use Rattle.scan_rounds.specs.OpenedScan.{page_rules}
 
 -- the lengths fit
 lengths_fit : (told : Option Told) (segment relations : ℕ) (lengths : List ℕ)
@@ -57,22 +58,22 @@ pub ran_listed : (told now : Option Told) (segment relations : ℕ) (command : C
     (o : Outcome) (w : List ℕ) → now ≡ told → relations ≡ length (command_relations command)
     → HasAllLengths told segment relations lengths
     → IsOutput (command_format command) now (request_parts (slice_index lengths)
-    (map_pages_known now command.settings.zero given) command) output after o w
+    (map_pages_known now (page_rules command.settings) given) command) output after o w
     → (read < last_count → read ≤ length (request_list (slice_index lengths)
-    (map_pages_known now command.settings.zero given) command))
+    (map_pages_known now (page_rules command.settings) given) command))
     → IsFileRun told relations command (observed_state output 0) (observed_state after read) o w
 ran_listed told now segment relations command lengths given output after read o w same all has lists
     few =
-    let map_page = map_pages_known told command.settings.zero given in
+    let map_page = map_pages_known told (page_rules command.settings) given in
     let parts = same_parts told segment relations command lengths map_page all has in
     let requests = sym (request_blocks (slice_index lengths) map_page command)
     ∙ ap blocks_of_parts parts
     ∙ request_blocks (lengths_known told (slice_index lengths)) map_page command in
     let L : Option Told → Type 0 =
     λ n. IsOutput (command_format command) n (request_parts (slice_index lengths)
-    (map_pages_known n command.settings.zero given) command) output after o w in
+    (map_pages_known n (page_rules command.settings) given) command) output after o w in
     let F : Option Told → Type 0 = λ n. read < last_count → read ≤ length (request_list
-    (slice_index lengths) (map_pages_known n command.settings.zero given) command) in
+    (slice_index lengths) (map_pages_known n (page_rules command.settings) given) command) in
     let fewer = subst F same few in record {
       answered = slice_index lengths;
       map_page = given;

@@ -10,6 +10,7 @@ use Rattle.vis_map.specs.MapRequest.{unmarked_entries}
 use Rattle.vis_map.specs.declared.map.Skip.{Skip}
 use Rattle.scan_rounds.specs.Jobs.{answered_ending, unread_ending_count}
 use Rattle.scan_rounds.specs.ListOptions.{ListOptions}
+use Rattle.scan_rounds.specs.OpenedScan.{page_rules}
 use Rattle.scan_rounds.specs.Rounds.{MapPagesConsumed}
 use Rattle.scan_rounds.specs.BlockFilter.{BlockFilter, unskipped_entries}
 use Rattle.scan_rounds.specs.ConsumedPages.{MapHasPages, PagesConsumed}
@@ -54,7 +55,7 @@ module _ {W D : Type 0} (m m' : ListOptions) (told : Option Told) (bs cs : List 
     (k k' : ℕ) (found : Map) (warnings : List ℕ) (end : JobEnding) (some : 1 ≤ length bs)
     (options : m' ≡ m) (count : k' ≡ k)
     (read : MapPagesConsumed m' told bs cs 1 k' found warnings end) where
-  taken : PagesConsumed (MapHasPages found warnings) m.zero told (λ _. ⊤) (block_range 1 0 k)
+  taken : PagesConsumed (MapHasPages found warnings) m.rules told (λ _. ⊤) (block_range 1 0 k)
       (answered_ending end)
   taken = map_taken m m' told bs cs 1 k k' found warnings end some options count read
 
@@ -64,11 +65,11 @@ module _ {W D : Type 0} (m m' : ListOptions) (told : Option Told) (bs cs : List 
   map_part by s = map_listed m told s by (λ _. ⊤) k found warnings end taken
 
   pub map_added : end ≡ ending.Pages → found.added
-      ≡ map (map_pages_known told m.zero (λ b. slice_index_or found.added b []))
+      ≡ map (map_pages_known told m.rules (λ b. slice_index_or found.added b []))
       (range_with_len 0 k)
   map_added all =
-      added_known m.zero told (λ _. ⊤) k found warnings
-      (subst (λ (e : JobEnding). PagesConsumed (MapHasPages found warnings) m.zero told (λ _. ⊤)
+      added_known m.rules told (λ _. ⊤) k found warnings
+      (subst (λ (e : JobEnding). PagesConsumed (MapHasPages found warnings) m.rules told (λ _. ⊤)
       (block_range 1 0 k) (answered_ending e)) all taken)
 
 pub unread_out : (r : ℕ) (end : JobEnding) (o : Outcome) (q b : ℕ) → o ≡ outcome_of_ending r end
@@ -84,11 +85,11 @@ module _ (a : ResolvedCommand) (none : (a.command.now).map ≡ None) (told : Opt
     (given : ℕ → List ℕ) where
   abbrev all_with : Option MapOption → List Request
   all_with o = with_map o (slice_index a.lengths.now)
-      (map_pages_known told (a.command.now).settings.zero given) (resolved_requests a)
+      (map_pages_known told (page_rules (a.command.now).settings) given) (resolved_requests a)
 
   abbrev all_parts_with : Option MapOption → List Part
   all_parts_with o = with_map_part o (slice_index a.lengths.now)
-      (map_pages_known told (a.command.now).settings.zero given) (resolved_requests a)
+      (map_pages_known told (page_rules (a.command.now).settings) given) (resolved_requests a)
       (resolved_parts a)
 
   pub without_map : (b n : Option (List ℕ)) (o : Outcome) (w : List ℕ)
@@ -112,7 +113,7 @@ module _ (a : ResolvedCommand) (by : MapOption) (with_it : (a.command.now).map �
   m = options_of_settings (resolved_settings a)
 
   abbrev mp : ℕ → List ℕ
-  mp = map_pages_known told (a.command.now).settings.zero given
+  mp = map_pages_known told (page_rules (a.command.now).settings) given
 
   abbrev list_with : Option MapOption → List Request
   list_with o = with_map o (slice_index a.lengths.now) mp (resolved_requests a)

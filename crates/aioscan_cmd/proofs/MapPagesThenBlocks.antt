@@ -6,7 +6,9 @@ use Rattle.std.specs.List.{range_with_len}
 use Rattle.std.proofs.lemmas.List.{length-map, take_all}
 use Rattle.std.proofs.lemmas.List.FromFn.{length-range_with_len}
 use Rattle.page_check.specs.Told.{Told}
-use Rattle.page_check.specs.SynchronousAnswer.{Reader, End, found_page, reader_of, zeroing}
+use Rattle.page_check.specs.declared.rules.PageRules.{PageRules}
+use Rattle.page_check.specs.SynchronousAnswer.{Reader, End, found_page, reading_of, zeroing}
+use Rattle.page_check.specs.SynchronousAnswer.{Known}
 use Rattle.page_check.specs.SynchronousAnswer.{found_at, entry_given, readable_pages, read_count}
 use Rattle.page_check.proofs.AnswersOfLists.{all_given, length_whole}
 use Rattle.heap_scan.specs.Job.{IsJobAnswer, block_entry}
@@ -35,18 +37,18 @@ use Rattle.aioscan_cmd.proofs.BlocksOfOneRelation.{range_of, some_pages_of}
 
 -- the way of a command with this map
 abbrev pub format_with_map : ListOptions → Option MapOption → ListFormat
-format_with_map m by = record { zero = m.zero; text_of = without_map_pages by (text_with m.tuples) }
+format_with_map m by = record { rules = m.rules; text_of = without_map_pages by (text_with m.tuples) }
 
 module _ (m : ListOptions) (told : Option Told) (s : Option (List ℕ)) where
   -- the pages of the map were read, up to this ending, and have no text
   pub map_listed : (by : MapOption) (may : Request → Type 0) (k : ℕ) (found : Map)
       (warnings : List ℕ) (end : JobEnding)
-      → PagesConsumed (MapHasPages found warnings) m.zero told may (block_range 1 0 k)
+      → PagesConsumed (MapHasPages found warnings) m.rules told may (block_range 1 0 k)
       (answered_ending end)
       → IsOutput (format_with_map m (Some by)) told (block_range 1 0 k ∷ []) s s
       (outcome_of_ending 1 end) warnings
   map_listed by may k found warnings end given =
-      let found_by = reader_of m.zero told in
+      let found_by = reading_of m.rules told in
       let blocks = block_range 1 0 k in
       let text_of = without_map_pages (Some by) (text_with m.tuples) in
       let pages_of_map = pages_are_of 1 found_by blocks given.pages (range_of 1 0 k)
@@ -74,7 +76,7 @@ module _ (m : ListOptions) (told : Option Told) (by : Option MapOption) (xs : Li
       ≡ listing (without_map_pages by (text_with m.tuples)) (take n (drop k pages))
   of_zero k n = other_listing by (text_with m.tuples) (take n (drop k pages))
       (some_pages_of 0 k n pages
-      (pages_are_of 0 (reader_of m.zero told) (blocks_of_parts xs) pages all
+      (pages_are_of 0 (reading_of m.rules told) (blocks_of_parts xs) pages all
       lists.answer.answers.first))
 
   pub jobs_listed : IsOutput (format_with_map m by) told xs b a o w
@@ -87,7 +89,7 @@ module _ (m : ListOptions) (told : Option Told) (by : Option MapOption) (xs : Li
       pages = lists.answer.pages;
       text_is = lists.answer.text_is
           ∙ other_listing by (text_with m.tuples) lists.answer.pages
-          (pages_are_of 0 (reader_of m.zero told) (blocks_of_parts xs) lists.answer.pages all
+          (pages_are_of 0 (reading_of m.rules told) (blocks_of_parts xs) lists.answer.pages all
           lists.answer.answers.first);
       warnings_are = lists.answer.warnings_are;
       sums_are = lists.answer.sums_are;
@@ -139,23 +141,23 @@ range_count r first n =
 
 -- a map that was read to its end has the pages that synchronous reads give, or else those that were
 -- given
-pub added_known : (on : Bool) (told : Option Told) (may : Request → Type 0) (k : ℕ) (found : Map)
+pub added_known : (rules : PageRules) (told : Option Told) (may : Request → Type 0) (k : ℕ) (found : Map)
     (warnings : List ℕ)
-    → PagesConsumed (MapHasPages found warnings) on told may (block_range 1 0 k) (Some End)
+    → PagesConsumed (MapHasPages found warnings) rules told may (block_range 1 0 k) (Some End)
     → found.added
-    ≡ map (map_pages_known told on (λ b. slice_index_or found.added b [])) (range_with_len 0 k)
-added_known on None may k found warnings given =
+    ≡ map (map_pages_known told rules (λ b. slice_index_or found.added b [])) (range_with_len 0 k)
+added_known rules None may k found warnings given =
     let many : length found.added ≡ k =
     ap length given.held.added ∙ length-map given.pages (λ (g : Page). g.page)
     ∙ given.answers.endings.0 ∙ range_count 1 0 k in
     sym (by_places [] found.added)
     ∙ ap (λ (n : ℕ). map (λ b. slice_index_or found.added b []) (range_with_len 0 n)) many
-added_known on (Some t) may k found warnings given =
-    let f = zeroing on (found_at t) in
+added_known rules (Some t) may k found warnings given =
+    let f = zeroing rules.zero (found_at rules.checksums t) in
     let blocks = block_range 1 0 k in
     let n = read_count f blocks in
     let end = given.answers.endings.0 in
-    let whole : length given.pages ≡ length blocks = length_whole (Some f) blocks given.pages end in
+    let whole : length given.pages ≡ length blocks = length_whole (Known f) blocks given.pages end in
     let all : readable_pages f blocks ≡ given.pages =
     all_given f blocks given.pages given.answers.first end.0 in
     let long : length blocks ≤ n =

@@ -1,10 +1,10 @@
--- What it says of a command that it has a map.
-use Rattle.std.proofs.Common.{◌≡◌, ℕ, List, [], ◌∷◌, refl, sym, subst, Bool, true, false}
-use Rattle.std.specs.Prelude.{Option, Some, None, IfSome, codes, not, ◌&&◌, if◌then◌else◌}
+-- What it says of a command that it has a map, or generated pages.
+use Rattle.std.proofs.Common.{◌≡◌, ℕ, List, [], ◌∷◌, refl, sym, subst, ◌∙◌, Bool, true, false}
+use Rattle.std.specs.Prelude.{Option, Some, None, IfSome, codes, not, ◌&&◌, ◌||◌, if◌then◌else◌}
 use Rattle.std.specs.Str.{bytes_eq}
 use Rattle.clap.specs.Words.{Row, Text, all_of}
 use Rattle.vis_map.specs.declared.map.Skip.{Skip}
-use Rattle.aioscan_cmd.specs.Command.{IsMapOf, MapOption}
+use Rattle.aioscan_cmd.specs.Command.{HasNoRange, IsMapOf, MapOption}
 use Rattle.aioscan_cmd.specs.Words.{Source, source_files, is_map_of, is_name, parsed_map, named_map}
 use Rattle.aioscan_cmd.specs.Words.{parsed_map_option, skip_of, files_or_generated}
 
@@ -51,26 +51,26 @@ one_file (Some name) skip (Some []) map is = absurd (cc)
 one_file (Some name) skip (Some (file ∷ other ∷ files)) map is = absurd (cc)
 
 -- no pages are generated where there are FILE words
-none_generated : (from to : Option ℕ) (tuples : Bool) (generated : Option ℕ)
+none_generated : (from to : Option ℕ) (of_files : Bool) (generated : Option ℕ)
     (words : List Text) (s : Source)
-    → files_or_generated from to tuples generated (Some words) ≡ Some s → generated ≡ None
-none_generated from to tuples None words s is = refl
-none_generated (Some from) to tuples (Some n) words s is = absurd (cc)
-none_generated None (Some to) tuples (Some n) words s is = absurd (cc)
+    → files_or_generated from to of_files generated (Some words) ≡ Some s → generated ≡ None
+none_generated from to of_files None words s is = refl
+none_generated (Some from) to of_files (Some n) words s is = absurd (cc)
+none_generated None (Some to) of_files (Some n) words s is = absurd (cc)
 none_generated None None true (Some n) words s is = absurd (cc)
 none_generated None None false (Some n) words s is = absurd (cc)
 
-of_files : (rows : List Row) (from to : Option ℕ) (tuples : Bool)
+map_of_files : (rows : List Row) (from to : Option ℕ) (of_files : Bool)
     (generated : Option ℕ) (s : Source)
-    (map : Option MapOption) → files_or_generated from to tuples generated
+    (map : Option MapOption) → files_or_generated from to of_files generated
     (all_of (codes "FILE") rows) ≡ Some s
     → IfSome map (IsOfOne (all_of (codes "FILE") rows))
     → IfSome map (IsMapOf generated (source_files generated rows))
-of_files rows from to tuples generated s None source of = tt
-of_files rows from to tuples generated s (Some map) source of =
-    let P : Option (List Text) → Type 0 = λ w. files_or_generated from to tuples generated w
+map_of_files rows from to of_files generated s None source of = tt
+map_of_files rows from to of_files generated s (Some map) source of =
+    let P : Option (List Text) → Type 0 = λ w. files_or_generated from to of_files generated w
     ≡ Some s in
-    let none = none_generated from to tuples generated _ s (subst P of.one source) in
+    let none = none_generated from to of_files generated _ s (subst P of.one source) in
     let Q : Option ℕ → Type 0 = λ m. source_files m rows ≡ of.file ∷ [] in
     let here : Q None = rw (of.one) refl in
     record {
@@ -81,12 +81,24 @@ of_files rows from to tuples generated s (Some map) source of =
     }
 
 -- words that are taken, and what they say of a map
-pub map_of_words : (rows : List Row) (from to : Option ℕ) (tuples : Bool) (generated : Option ℕ)
+pub map_of_words : (rows : List Row) (from to : Option ℕ) (of_files : Bool) (generated : Option ℕ)
     (s : Source) (right : Bool) (map : Option MapOption)
-    → files_or_generated from to tuples generated (all_of (codes "FILE") rows)
+    → files_or_generated from to of_files generated (all_of (codes "FILE") rows)
     ≡ (if right then Some s else None)
     → right ≡ true → parsed_map rows ≡ Some map
     → IfSome map (IsMapOf generated (source_files generated rows))
-map_of_words rows from to tuples generated s true map source taken is =
-    of_files rows from to tuples generated s map source (one_file _ _ _ map is)
-map_of_words rows from to tuples generated s false map source taken is = absurd (cc)
+map_of_words rows from to of_files generated s true map source taken is =
+    map_of_files rows from to of_files generated s map source (one_file _ _ _ map is)
+map_of_words rows from to of_files generated s false map source taken is = absurd (cc)
+
+or_false : (tuples checksums : Bool) → (tuples || checksums) ≡ false → checksums ≡ false
+or_false true checksums is = absurd (cc)
+or_false false checksums is = is
+
+-- what `--make` goes without, `--checksums` goes without
+pub no_range_by : (generated from to : Option ℕ) (of_files tuples checksums given : Bool)
+    → of_files ≡ (tuples || checksums) → given ≡ checksums → HasNoRange generated from to of_files
+    → HasNoRange generated from to given
+no_range_by None from to of_files tuples checksums given either same has = tt
+no_range_by (Some n) from to of_files tuples checksums given either same has =
+    (has.0, has.1, has.2, has.3, same ∙ or_false tuples checksums (sym either ∙ has.4))

@@ -5,7 +5,8 @@ use Rattle.std.specs.Prelude.{Option, Some, None, slice_get, ⊤}
 use Rattle.std.proofs.Math.Seq.{take-append-add}
 use Rattle.std.proofs.lemmas.List.{take_all}
 use Rattle.page_check.specs.Told.{Told}
-use Rattle.page_check.specs.SynchronousAnswer.{Ending, End, Reader, reader_of}
+use Rattle.page_check.specs.SynchronousAnswer.{Ending, End, Reader, reading_of}
+use Rattle.page_check.specs.SynchronousAnswer.{Reading}
 use Rattle.page_check.proofs.AnswersInOrder.{answered_none, slice_get_front, slice_get_back}
 use Rattle.page_check.proofs.AnswersOfLists.{length_whole}
 use Rattle.page_check.proofs.AnswersOfBlocks.{answered_no_block}
@@ -42,7 +43,7 @@ unfolding warnings_of
 no_warnings = refl
 
 -- no blocks have no pages
-pub no_answer : (text_of : TextOf) (found : Option Reader)
+pub no_answer : (text_of : TextOf) (found : Reading)
     → IsJobAnswer text_of found (λ (e : Request). ⊤) [] [] [] no_sums (Some End)
 no_answer text_of found = record {
   pages = [];
@@ -66,7 +67,7 @@ lists_none m told s = record {
   text = [];
   all_warnings = [];
   sums = no_sums;
-  answer = no_answer m.text_of (reader_of m.zero told);
+  answer = no_answer m.text_of (reading_of m.rules told);
   named_block_is = λ e is. absurd (cc);
   output_grew = SinkGrew-nothing s;
   whole = 0;
@@ -88,10 +89,10 @@ OutputGrew-append _ b m a xs ys first second = SinkGrew-append b m a xs ys first
 -- the same answer, where the blocks are known by another list
 abbrev pub with_blocks : (m : ListFormat) (told : Option Told) (xs ys : List Request)
     (text warnings : List ℕ) (sums : PageSums) (end : Option Ending) → xs ≡ ys
-    → IsJobAnswer m.text_of (reader_of m.zero told) (λ _. ⊤) xs text warnings sums end
-    → IsJobAnswer m.text_of (reader_of m.zero told) (λ _. ⊤) ys text warnings sums end
+    → IsJobAnswer m.text_of (reading_of m.rules told) (λ _. ⊤) xs text warnings sums end
+    → IsJobAnswer m.text_of (reading_of m.rules told) (λ _. ⊤) ys text warnings sums end
 with_blocks m told xs ys text warnings sums end same answer =
-    let P : List Request → Type 0 = λ l. IsAnswer (reader_of m.zero told) (λ _. ⊤) l
+    let P : List Request → Type 0 = λ l. IsAnswer (reading_of m.rules told) (λ _. ⊤) l
     (record { pages = answer.pages; endings = endings_of end }) in record {
       pages = answer.pages;
       text_is = answer.text_is;
@@ -116,7 +117,7 @@ unfoldable pub lists_append : (m : ListFormat) (told : Option Told) (xs ys : Lis
 unfolding job_append
 lists_append m told xs ys b between a o v w front back =
     let text_of = m.text_of in
-    let found = reader_of m.zero told in
+    let found = reading_of m.rules told in
     let texts : List Page → List ℕ = listing text_of in
     let ps = front.answer.pages in
     let qs = back.answer.pages in
@@ -181,7 +182,7 @@ lists_more m told xs ys b a o w stops front =
     let us = blocks_of_parts xs in
     let vs = blocks_of_parts ys in
     let both = blocks-append xs ys in
-    let longer = job_more m.text_of (reader_of m.zero told) (λ _. ⊤) us vs front.text
+    let longer = job_more m.text_of (reading_of m.rules told) (λ _. ⊤) us vs front.text
     front.all_warnings front.sums (outcome_ending o) (early o stops) front.answer in
     let pages = front.answer.pages in record {
       not_refused = front.not_refused;
@@ -222,7 +223,7 @@ lists_nothing m told xs s = record {
     text_is = sym (no_listing m.text_of);
     warnings_are = sym no_warnings;
     sums_are = sym no_pages_sums;
-    answers = answered_none (reader_of m.zero told) (λ _. ⊤) (blocks_of_parts xs);
+    answers = answered_none (reading_of m.rules told) (λ _. ⊤) (blocks_of_parts xs);
   };
   named_block_is = λ e is. absurd (cc);
   output_grew = SinkGrewByPrefix-nothing s s [] refl;

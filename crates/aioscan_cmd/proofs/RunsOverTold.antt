@@ -29,7 +29,7 @@ module _ (m : ListFormat) (t : Told) (parts : List Part) (b a : ObservedState) (
   requests = blocks_of_parts parts
 
   abbrev f : Reader
-  f = zeroing m.zero (found_at t)
+  f = zeroing m.rules.zero (found_at m.rules.checksums t)
 
   abbrev texts : List Page → List ℕ
   texts pages = listing m.text_of pages

@@ -6,6 +6,7 @@ use Rattle.std.specs.List.{filter, position_or_len}
 use Rattle.std.specs.Option.{option_map_or}
 use Rattle.std.specs.Str.{bytes_eq}
 use Rattle.scan_rounds.specs.ListOptions.{ListOptions, list_options}
+use Rattle.scan_rounds.specs.OpenedScan.{page_rules}
 use Rattle.scan_rounds.specs.declared.settings.ScanSettings.{ScanSettings}
 use Rattle.vis_map.specs.declared.map.Skip.{Skip}
 
@@ -29,7 +30,7 @@ pub record Command : Type 0 where
 
 -- the options of a listing by these settings
 abbrev pub options_of_settings : ScanSettings → ListOptions
-options_of_settings settings = list_options settings.zero settings.tuples
+options_of_settings settings = list_options (page_rules settings) settings.tuples
 
 -- the numbers of blocks that `--from` and `--to` may give end below this: 16 segments of the
 -- greatest size
@@ -44,16 +45,17 @@ length_limit segment = 16 * segment
 abbrev pub generated_page_limit : ℕ
 generated_page_limit = 4096
 
--- of generated pages all blocks are asked for
-abbrev pub HasNoRange : Option ℕ → Option ℕ → Option ℕ → Type 0
-HasNoRange None from to = Unit {0}
-HasNoRange (Some n) from to = (1 ≤ n) × (n ≤ generated_page_limit) × (from ≡ None) × (to ≡ None)
+-- of generated pages all blocks are asked for, and their checksums are not verified: they have none
+abbrev pub HasNoRange : Option ℕ → Option ℕ → Option ℕ → Bool → Type 0
+HasNoRange None from to checksums = Unit {0}
+HasNoRange (Some n) from to checksums =
+    (1 ≤ n) × (n ≤ generated_page_limit) × (from ≡ None) × (to ≡ None) × (checksums ≡ false)
 
--- the command asks for all blocks of so many generated pages
+-- the command asks for all blocks of so many generated pages, which have no checksums
 abbrev pub AsksForGeneratedPages : ℕ → Command → Type 0
 AsksForGeneratedPages n command =
     (command.files ≡ generated_file_name ∷ []) × (command.from ≡ None) × (command.to ≡ None)
-    × (n ≤ generated_page_limit) × (command.map ≡ None)
+    × (n ≤ generated_page_limit) × (command.map ≡ None) × (command.settings.checksums ≡ false)
 
 -- the map is that of the one file, which has another name, and no pages are generated
 pub record IsMapOf (generated : Option ℕ) (files : List (List ℕ)) (map : MapOption) : Type 0 where

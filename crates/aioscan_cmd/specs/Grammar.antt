@@ -41,7 +41,8 @@ option_names =
 -- the flags
 abbrev pub flag_names : List Text
 flag_names =
-    codes "batch" ∷ codes "full" ∷ codes "stats" ∷ codes "zero-damaged" ∷ codes "tuples" ∷ []
+    codes "batch" ∷ codes "full" ∷ codes "stats" ∷ codes "checksums" ∷ codes "zero-damaged"
+    ∷ codes "tuples" ∷ []
 
 -- the command
 unfoldable pub the_command : App

@@ -1,14 +1,16 @@
 -- What a run has listed of a list of blocks, whether or not the contents are told.
 use Rattle.std.specs.Prelude.{◌≡◌, ◌≢◌, ◌⊎◌, ◌<◌, ◌≤◌, ◌++◌, ℕ, List, [], length, take, drop}
 use Rattle.std.specs.Prelude.{Option, slice_get, slice_index_or, Some, None, Bool, ⊤, true, false}
-use Rattle.page_check.specs.SynchronousAnswer.{found_at, found_page, reader_of, zeroing}
+use Rattle.page_check.specs.SynchronousAnswer.{found_at, found_page, reading_of, zeroing}
 use Rattle.page_check.specs.Told.{Told}
+use Rattle.page_check.specs.declared.rules.PageRules.{PageRules}
 use Rattle.heap_scan.specs.Job.{IsJobAnswer}
 use Rattle.heap_scan.specs.Listing.{TextOf, listing}
 use Rattle.heap_scan.specs.Warnings.{warnings_of}
 use Rattle.heap_scan.specs.declared.sums.PageSums.{PageSums}
 use Rattle.heap_tuple.specs.Listing.{text_with}
 use Rattle.scan_rounds.specs.ListOptions.{ListOptions}
+use Rattle.scan_rounds.specs.OpenedScan.{page_rules}
 use Rattle.aio_disk.specs.Counts.{CountRose}
 use Rattle.aio_disk.specs.Sink.{SinkGrew, SinkGrewByPrefix}
 use Rattle.aioscan_cmd.specs.Command.{Command}
@@ -17,18 +19,18 @@ use Rattle.aioscan_cmd.specs.Outcomes.{is_refused, is_output_cut_off, named_bloc
 use Rattle.aioscan_cmd.specs.declared.report.Outcome.{Outcome}
 use Rattle.aioscan_cmd.specs.declared.report.Outcome.TheVariants.{CannotWrite, NoMemory}
 
--- the format of a listing: whether damaged pages are given as zeros, and what text a page has
+-- the format of a listing: how pages are read, and what text a page has
 pub record ListFormat : Type 0 where
-  pub zero : Bool
+  pub rules : PageRules
   pub text_of : TextOf
 
 abbrev pub format_of_options : ListOptions → ListFormat
-format_of_options m = record { zero = m.zero; text_of = text_with m.tuples }
+format_of_options m = record { rules = m.rules; text_of = text_with m.tuples }
 
 -- that of a command
 abbrev pub command_format : Command → ListFormat
 command_format command = record {
-  zero = command.settings.zero;
+  rules = page_rules command.settings;
   text_of = without_map_pages command.map (text_with command.settings.tuples);
 }
 
@@ -81,7 +83,7 @@ pub record IsOutput (m : ListFormat) (told : Option Told) (parts : List Part)
   pub text : List ℕ
   pub all_warnings : List ℕ
   pub sums : PageSums
-  pub answer : IsJobAnswer m.text_of (reader_of m.zero told) (λ _. ⊤) (blocks_of_parts parts) text
+  pub answer : IsJobAnswer m.text_of (reading_of m.rules told) (λ _. ⊤) (blocks_of_parts parts) text
       all_warnings sums (outcome_ending outcome)
   pub named_block_is : (e : Request) → named_block outcome ≡ Some e
       → slice_get (blocks_of_parts parts) (length answer.pages) ≡ Some e
@@ -94,7 +96,7 @@ pub record IsOutput (m : ListFormat) (told : Option Told) (parts : List Part)
   pub stopped_behind : is_output_cut_off outcome ≡ true
       → StoppedBehind m.text_of parts answer.pages before now outcome whole
   pub warnings_are : warnings ≡ warnings_of (take whole answer.pages)
-  pub no_warnings : m.zero ≡ false → warnings ≡ []
+  pub no_warnings : m.rules.zero ≡ false → warnings ≡ []
 
 -- what a run's writes have counted: no fault was forgotten, and one is named only where it rose
 pub record WriteFaultsCounted (faults_before faults_now : ℕ) (outcome : Outcome) : Type 0 where
@@ -102,6 +104,7 @@ pub record WriteFaultsCounted (faults_before faults_now : ℕ) (outcome : Outcom
   pub cannot_write : outcome ≡ CannotWrite → CountRose faults_before faults_now
 
 -- the pages of the map where contents are told, or else those that were given
-abbrev pub map_pages_known : Option Told → Bool → (ℕ → List ℕ) → ℕ → List ℕ
-map_pages_known (Some told) zero given = λ block. found_page (zeroing zero (found_at told) 1 block)
-map_pages_known None zero given = given
+abbrev pub map_pages_known : Option Told → PageRules → (ℕ → List ℕ) → ℕ → List ℕ
+map_pages_known (Some told) rules given =
+    λ block. found_page (zeroing rules.zero (found_at rules.checksums told) 1 block)
+map_pages_known None rules given = given

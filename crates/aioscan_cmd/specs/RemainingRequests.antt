@@ -6,6 +6,7 @@ use Rattle.vis_map.specs.declared.map.Skip.{Skip}
 use Rattle.std.specs.List.{flat_map}
 use Rattle.page_check.specs.Told.{Told}
 use Rattle.scan_rounds.specs.declared.settings.ScanSettings.{ScanSettings}
+use Rattle.scan_rounds.specs.OpenedScan.{page_rules}
 use Rattle.aioscan_cmd.specs.Command.{IsMapOf, MapOption, number_limit, command_relations}
 use Rattle.aioscan_cmd.specs.Command.{relation_number, first_block, asked_count}
 use Rattle.aioscan_cmd.specs.RequestList.{Request, Part, request_list, request_parts, range_parts}
@@ -41,13 +42,13 @@ resolved_parts a = all_file_parts (slice_index a.lengths.now) a.command.now
 abbrev pub resolved_request_list : ResolvedCommand → Option Told → (ℕ → List ℕ) → List Request
 resolved_request_list a told given =
     request_list (slice_index a.lengths.now)
-    (map_pages_known told (a.command.now).settings.zero given) a.command.now
+    (map_pages_known told (page_rules (a.command.now).settings) given) a.command.now
 
 -- in parts
 abbrev pub resolved_request_parts : ResolvedCommand → Option Told → (ℕ → List ℕ) → List Part
 resolved_request_parts a told given =
     request_parts (slice_index a.lengths.now)
-    (map_pages_known told (a.command.now).settings.zero given) a.command.now
+    (map_pages_known told (page_rules (a.command.now).settings) given) a.command.now
 
 -- the command has a map, which leaves out these blocks
 pub record AsksForMap (a : ResolvedCommand) (skip : Skip) : Type 0 where

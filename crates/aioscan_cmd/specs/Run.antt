@@ -23,6 +23,7 @@ use Rattle.aioscan_cmd.specs.declared.report.Outcome.{Outcome}
 use Rattle.aioscan_cmd.specs.declared.report.Outcome.TheVariants.{Done, Invalid, Usage, CannotOpen}
 use Rattle.aioscan_cmd.specs.declared.report.Outcome.TheVariants.{NoLength, Unread, CannotWrite}
 use Rattle.aioscan_cmd.specs.declared.report.Outcome.TheVariants.{NoMemory, Missing, TooLong}
+use Rattle.scan_rounds.specs.OpenedScan.{page_rules}
 
 -- the outcome where nothing but the pages ends a run
 abbrev pub outcome_of_found : Found → ℕ → ℕ → Outcome
@@ -52,7 +53,7 @@ pub record SynchronousRun : Type 0 where
 
 abbrev pub file_run : Told → Command → SynchronousRun
 file_run told command =
-    let found = zeroing command.settings.zero (found_at told) in
+    let found = zeroing command.settings.zero (found_at command.settings.checksums told) in
     let map_page : ℕ → List ℕ = λ block. found_page (found 1 block) in
     let requests = request_list (relation_block_count told) map_page command in
     let pages = readable_pages found requests in
@@ -71,7 +72,7 @@ file_run told command =
 -- over so many generated pages: all blocks of their relation, and the line of the sums of the pages
 abbrev pub generated_run : Bool → ℕ → SynchronousRun
 generated_run zero n =
-    let found = zeroing zero (found_at (generated_told n)) in
+    let found = zeroing zero (found_at false (generated_told n)) in
     let requests = block_range 0 0 n in
     let pages = readable_pages found requests in record {
       relations = 1;
@@ -189,12 +190,12 @@ pub record IsFileRun (told : Option Told) (relations : ℕ) (command : Command)
   pub is_output : is_refused outcome ≡ false
       → IsOutput (command_format command) told
       (request_parts (lengths_known told answered)
-      (map_pages_known told command.settings.zero map_page) command) before.written now.written
+      (map_pages_known told (page_rules command.settings) map_page) command) before.written now.written
       outcome warnings
   -- as far as the count goes, there were no more reads than blocks that were asked for
   pub few_reads : now.reads < last_count
       → now.reads ≤ before.reads + length (request_list (lengths_known told answered)
-      (map_pages_known told command.settings.zero map_page) command)
+      (map_pages_known told (page_rules command.settings) map_page) command)
   pub output_same : is_refused outcome ≡ true → (now ≡ before) × (warnings ≡ [])
 
 -- how a run over generated pages may end

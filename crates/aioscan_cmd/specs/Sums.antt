@@ -40,7 +40,7 @@ pub record IsSummedOutput (m : ListFormat) (told : Option Told) (parts : List Pa
 abbrev pub HasSums : ListOptions → Option Told → List Request → PageSums → Type 0
 HasSums m told requests sums =
     IfSome told (λ t. sums
-    ≡ saturated_sums (sums_of (readable_pages (zeroing m.zero (found_at t)) requests)))
+    ≡ saturated_sums (sums_of (readable_pages (zeroing m.rules.zero (found_at m.rules.checksums t)) requests)))
 
 -- of the blocks that a command without a map asks for, where all were listed
 abbrev pub HasSumsTold : Option Told → Command → Outcome → PageSums → Type 0

@@ -1,5 +1,5 @@
 -- The words of a command: what they ask for, or that they are no command.
-use Rattle.std.specs.Prelude.{◌≡◌, ℕ, List, [], ◌∷◌, Option, Some, None, Bool, true, false, ◌&&◌}
+use Rattle.std.specs.Prelude.{◌≡◌, ℕ, List, [], ◌∷◌, Option, Some, None, Bool, true, false, ◌&&◌, ◌||◌}
 use Rattle.std.specs.Prelude.{length, nat_le, if◌then◌else◌, not, unwrap_or, codes}
 use Rattle.std.specs.List.{list_all}
 use Rattle.std.specs.Option.{option_map}
@@ -90,9 +90,9 @@ NamesSource (Some n) rows = Unit {0}
 
 -- the settings, where each option that they come from has a right value
 abbrev pub settings_with : Option MethodKind → Option ℕ → Option ℕ → Option ℕ → Option ℕ → Option ℕ
-    → Option ℕ → Bool → Bool → Bool → Bool → Option ScanSettings
-settings_with (Some m) (Some w) (Some n) (Some c) (Some o) (Some h) (Some b) batch full zero
-    tuples =
+    → Option ℕ → Bool → Bool → Bool → Bool → Bool → Option ScanSettings
+settings_with (Some m) (Some w) (Some n) (Some c) (Some o) (Some h) (Some b) batch full checksums
+    zero tuples =
     Some (record {
       method = m;
       workers = w;
@@ -104,10 +104,11 @@ settings_with (Some m) (Some w) (Some n) (Some c) (Some o) (Some h) (Some b) bat
       batch = batch;
       full = full;
       segment = 131072;
+      checksums = checksums;
       zero = zero;
       tuples = tuples;
     })
-settings_with _ _ _ _ _ _ _ _ _ _ _ = None
+settings_with _ _ _ _ _ _ _ _ _ _ _ _ = None
 
 -- what is listed: files, or generated pages
 pub record Source : Type 0 where
@@ -121,21 +122,22 @@ source_of_files from to None = None
 source_of_files from to (Some files) =
     Some (record { from = from; to = to; files = files; generated = None })
 
--- either FILE words or `--make`, and `--make` with none of `--from`, `--to` and `--tuples`
+-- either FILE words or `--make`, and `--make` with none of `--from`, `--to`, `--tuples` and
+-- `--checksums`
 abbrev pub files_or_generated : Option ℕ → Option ℕ → Bool → Option ℕ → Option (List Text)
     → Option Source
-files_or_generated from to tuples None words = source_of_files from to (valid_file_names words)
+files_or_generated from to of_files None words = source_of_files from to (valid_file_names words)
 files_or_generated None None false (Some n) None =
     Some (record { from = None; to = None; files = generated_file_name ∷ []; generated = Some n })
-files_or_generated (Some from) to tuples (Some n) words = None
-files_or_generated None (Some to) tuples (Some n) words = None
+files_or_generated (Some from) to of_files (Some n) words = None
+files_or_generated None (Some to) of_files (Some n) words = None
 files_or_generated None None true (Some n) words = None
 files_or_generated None None false (Some n) (Some words) = None
 
 abbrev pub parsed_source : Option (Option ℕ) → Option (Option ℕ) → Bool → Option (Option ℕ)
     → Option (List Text) → Option Source
-parsed_source (Some from) (Some to) tuples (Some generated) words =
-    files_or_generated from to tuples generated words
+parsed_source (Some from) (Some to) of_files (Some generated) words =
+    files_or_generated from to of_files generated words
 parsed_source _ _ _ _ _ = None
 
 -- the option that the code keeps, as contracts see it
@@ -189,6 +191,7 @@ module _ (rows : List Row) where
       (number_or 16 16384 128 (text_of (codes "buffers")))
       (is_set (text_of (codes "batch")))
       (is_set (text_of (codes "full")))
+      (is_set (text_of (codes "checksums")))
       (is_set (text_of (codes "zero-damaged")))
       (is_set (text_of (codes "tuples")))
 
@@ -201,7 +204,7 @@ module _ (rows : List Row) where
       (parsed_source
       (number_if_given 0 2097151 (text_of (codes "from")))
       (number_if_given 0 2097151 (text_of (codes "to")))
-      (is_set (text_of (codes "tuples")))
+      (is_set (text_of (codes "tuples")) || is_set (text_of (codes "checksums")))
       (number_if_given 1 4096 (text_of (codes "make")))
       (all_of (codes "FILE") rows))
       parsed_map

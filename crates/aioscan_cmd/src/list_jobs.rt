@@ -76,7 +76,7 @@ pub(crate) fn list_jobs<
         out,
         err,
         line,
-        zero: settings.zero,
+        rules: settings.page_rules(),
         tuples: settings.tuples,
         outcome: Outcome::Done,
         sums: PageSums::default(),

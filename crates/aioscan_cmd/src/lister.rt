@@ -19,7 +19,7 @@ use crate::error_line::write_warnings;
 use crate::{Line, Outcome};
 use aio_disk::{Sink, WriteFault};
 use heap_scan::PageSums;
-use page_check::World;
+use page_check::{PageRules, World};
 use scan_rounds::{Ending, Job, JobSource, MapFilter};
 
 /// What a run has still to list, and where to.
@@ -32,8 +32,8 @@ pub(crate) struct Lister<'a, 'e, 'm, 'w, W: World, O: Sink, E: Sink> {
     pub(crate) err: &'e mut E,
     /// How much of the warnings so far reached the error stream.
     pub(crate) line: Line,
-    /// Whether damaged pages are listed as zeros.
-    pub(crate) zero: bool,
+    /// How pages are read.
+    pub(crate) rules: PageRules,
     /// Whether the headers of tuples are listed too.
     pub(crate) tuples: bool,
     /// `Done` as long as nothing has ended the run.

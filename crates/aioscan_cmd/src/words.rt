@@ -1,13 +1,13 @@
 //! The words of a command.
 ghost use Rattle.std.specs.Prelude.{◌≡◌, ◌<◌, ◌≤◌, ◌+◌, map, length, None, Some, IfOk, IfErr};
-ghost use Rattle.std.specs.Prelude.{string_bytes, codes, true, IfSome, if◌then◌else◌};
+ghost use Rattle.std.specs.Prelude.{string_bytes, codes, true, IfSome, if◌then◌else◌, ◌||◌};
 ghost use Rattle.std.specs.Option.{option_map};
-ghost use Rattle.clap.specs.Words.{rows_of, found_of, all_of};
+ghost use Rattle.clap.specs.Words.{rows_of, found_of, all_of, first_of};
 ghost use Rattle.aioscan_cmd.specs.Command.{number_limit, first_block, asked_count, IsBelowIfGiven};
 ghost use Rattle.aioscan_cmd.specs.Command.{HasNoRange, AsksForGeneratedPages, IsMapOf};
 ghost use Rattle.aioscan_cmd.specs.Command.{generated_page_limit};
 ghost use Rattle.aioscan_cmd.specs.Words.{parsed_command, command_of, source_files};
-ghost use Rattle.aioscan_cmd.specs.Words.{files_or_generated, NamesSource, map_option_view};
+ghost use Rattle.aioscan_cmd.specs.Words.{files_or_generated, is_set, NamesSource, map_option_view};
 ghost use Rattle.scan_rounds.specs.OpenedScan.{AreValidScanSettings};
 
 mod grammar;
@@ -74,21 +74,30 @@ impl<'a> Model for Command<'a> {
 
     ghost invariant = { λ c. IsBelowIfGiven c.from number_limit × IsBelowIfGiven c.to number_limit
         × NamesSource c.generated (rows_of (found_of c.matches))
-        × HasNoRange c.generated c.from c.to
+        × HasNoRange c.generated c.from c.to c.settings.checksums
         × AreValidScanSettings c.settings
         × IfSome (option_map map_option_view c.map) (IsMapOf c.generated
         (source_files c.generated (rows_of (found_of c.matches)))) };
 }
 
-// Whether FILE words are listed, or generated pages, all of them.
+// Whether an option is given that goes with FILE words alone.
+fn is_of_files(matches: &ArgMatches<'_>) -> bool
+    ensures { result ≡ (is_set (first_of (codes "tuples") (rows_of (found_of matches.now)))
+        || is_set (first_of (codes "checksums") (rows_of (found_of matches.now)))) }
+{
+    values::flag(matches, "tuples") || values::flag(matches, "checksums")
+}
+
+// Whether FILE words are listed, or generated pages, all of them, without an option that goes with
+// FILE words alone.
 fn is_source(
     matches: &ArgMatches<'_>,
     from: Option<u32>,
     to: Option<u32>,
-    tuples: bool,
+    of_files: bool,
     generated: Option<u32>,
 ) -> bool
-    ensures source { files_or_generated from to tuples generated
+    ensures source { files_or_generated from to of_files generated
         (all_of (codes "FILE") (rows_of (found_of matches.now)))
         ≡ (if result then Some (record {
           from = from;
@@ -97,11 +106,12 @@ fn is_source(
           generated = generated;
         }) else None) }
     ensures within { IfSome generated (λ n. (1 ≤ n) × (n ≤ generated_page_limit)) → result ≡ true
-        → NamesSource generated (rows_of (found_of matches.now)) × HasNoRange generated from to }
+        → NamesSource generated (rows_of (found_of matches.now))
+        × HasNoRange generated from to of_files }
 {
     match generated {
         None => values::names_files(matches),
-        Some(_) => from.is_none() && to.is_none() && !tuples && !values::has_files(matches),
+        Some(_) => from.is_none() && to.is_none() && !of_files && !values::has_files(matches),
     }
 }
 
@@ -113,8 +123,7 @@ impl<'a> Command<'a> {
         let from = values::number_given(&matches, "from", 0, LAST_BLOCK)?;
         let to = values::number_given(&matches, "to", 0, LAST_BLOCK)?;
         let generated = values::number_given(&matches, "make", 1, MOST_GENERATED)?;
-        let tuples = values::flag(&matches, "tuples");
-        if !is_source(&matches, from, to, tuples, generated) {
+        if !is_source(&matches, from, to, is_of_files(&matches), generated) {
             return None;
         }
         let map = map_option::map_given(&matches)?;
@@ -234,8 +243,8 @@ fn parse<'a>(alloc: Global, words: &'a [String]) -> Result<ArgMatches<'a>, Refus
 ///
 /// Words are refused for an option that is unknown or stands twice, and for a value that is missing
 /// or outside its range. A number has 1 to 7 digits; a FILE word is not empty. `--make` goes with
-/// no FILE word and with none of `--from`, `--to`, `--tuples` and `--map`. `--map` goes with one
-/// FILE word, of another name, and `--skip` with `--map` alone.
+/// no FILE word and with none of `--from`, `--to`, `--tuples`, `--checksums` and `--map`. `--map`
+/// goes with one FILE word, of another name, and `--skip` with `--map` alone.
 pub fn read_command<'a>(alloc: Global, words: &'a [String]) -> Result<Command<'a>, Refusal>
     ensures ok { IfOk result (λ c. command_of (map string_bytes words.now) ≡ Some c) }
     ensures err { IfErr result

@@ -1,18 +1,30 @@
 -- Which entries have a pin.
 use Rattle.std.proofs.Common.{◌≡◌, ℕ, zero, suc, ◌+◌, ◌<◌, IsTrue, nat_lt, true, eqb, ◌&&◌, arith}
-use Rattle.std.proofs.Common.{◌∙◌, ap, sym}
+use Rattle.std.proofs.Common.{◌∙◌, ap, sym, refl, Bool, false}
+use mathlib.Core.Bool.{beq}
 use Rattle.std.proofs.lemmas.Bool.{ltb-true, lt-ltb, and_parts, eqb-true}
 use Rattle.buf_pool.specs.declared.descriptor.Tag.{Tag}
 use Rattle.buf_pool.specs.declared.descriptor.Descriptor.{Descriptor}
 use Rattle.buf_pool.specs.declared.descriptor.Descriptor.TheVariants.{Free, InProgress, Valid}
 
+same_flag : (a b : Bool) → beq a b ≡ true → a ≡ b
+same_flag true true e = refl
+same_flag true false e = absurd (cc)
+same_flag false true e = absurd (cc)
+same_flag false false e = refl
+
 -- tags with equal parts are equal
-pub same_tag : (a b : Tag) → (eqb a.relation b.relation && eqb a.block b.block) ≡ true → a ≡ b
+pub same_tag : (a b : Tag)
+    → (eqb a.relation b.relation && (eqb a.block b.block && beq a.checksums b.checksums)) ≡ true
+    → a ≡ b
 same_tag a b e =
-    let both = and_parts (eqb a.relation b.relation) (eqb a.block b.block) e in
-    let relations = eqb-true a.relation b.relation both.0 in
-    let blocks = eqb-true a.block b.block both.1 in
-    λ i. record { relation = relations i; block = blocks i }
+    let first = and_parts (eqb a.relation b.relation)
+    (eqb a.block b.block && beq a.checksums b.checksums) e in
+    let later = and_parts (eqb a.block b.block) (beq a.checksums b.checksums) first.1 in
+    let relations = eqb-true a.relation b.relation first.0 in
+    let blocks = eqb-true a.block b.block later.0 in
+    let flags = same_flag a.checksums b.checksums later.1 in
+    λ i. record { relation = relations i; block = blocks i; checksums = flags i }
 
 count_of : Descriptor → ℕ
 count_of Free = 0

@@ -7,4 +7,4 @@ use Rattle.aio_callback.specs.GoodPages.{IsGood}
 -- it carries no tag, or a tag whose good page it is
 abbrev pub Carries : Option Told → Option Tag → List ℕ → Type 0
 Carries told carried page =
-    IfSome carried (λ tag. (length page ≡ 8192) × IsGood told tag.relation tag.block page)
+    IfSome carried (λ tag. (length page ≡ 8192) × IsGood told tag.checksums tag.relation tag.block page)

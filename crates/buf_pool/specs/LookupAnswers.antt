@@ -23,7 +23,7 @@ pinned_page pin = carried_page pin.claim.value
 -- a pin shows a good page of the tag, and the reference of an I/O is in range
 abbrev pub IsFound : {W : Type 0} → Option Told → ℕ → Tag → Found W → Type 0
 IsFound told handles tag (found.Hit pin) =
-    (pinned_tag pin ≡ tag) × IsGood told tag.relation tag.block (pinned_page pin)
+    (pinned_tag pin ≡ tag) × IsGood told tag.checksums tag.relation tag.block (pinned_page pin)
 IsFound told handles tag (found.Busy reference) = reference.handle < handles
 IsFound told handles tag found.Absent = ⊤
 

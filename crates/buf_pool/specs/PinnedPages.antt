@@ -1,11 +1,14 @@
 -- What a reader of a frame sees.
+use mathlib.Core.Bool.{beq}
 use Rattle.std.specs.Prelude.{ℕ, ◌==◌, ◌&&◌, Bool, false, List, [], Option, Some, None}
 use Rattle.buf_pool.specs.declared.descriptor.Tag.{Tag}
 use Rattle.buf_pool.specs.declared.carried_page.CarriedPage.{CarriedPage}
 
 -- whether this is the tag
 abbrev pub is_tag : Option Tag → Tag → Bool
-is_tag (Some carried) tag = (carried.relation == tag.relation) && (carried.block == tag.block)
+is_tag (Some carried) tag =
+    (carried.relation == tag.relation) && (carried.block == tag.block)
+    && beq carried.checksums tag.checksums
 is_tag None _ = false
 
 -- whether what a reader sees carries the tag

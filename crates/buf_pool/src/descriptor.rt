@@ -5,11 +5,13 @@ ghost use Rattle.buf_pool.specs.Frames.{descriptor_tag, is_free, is_unpinned};
 
 use aio_word::WaitRef;
 
-/// A block of a relation, after `BufferTag` of `buf_internals.h`.
+/// A block of a relation, after `BufferTag` of `buf_internals.h`, and whether the checksum of its
+/// page was verified: a page that was checked by its header alone is another one.
 #[derive(Clone, Copy, Debug, PartialEq, Eq)]
 pub struct Tag {
     pub relation: u32,
     pub block: u32,
+    pub checksums: bool,
 }
 
 /// What a frame holds, after `BufferDesc` of `buf_internals.h`.

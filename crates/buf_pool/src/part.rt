@@ -114,7 +114,7 @@ impl<W: World> Part<W> {
         requires { FallsTo self.now.share tag }
         ensures tag { IfSome result (λ pin. pinned_tag pin ≡ tag) }
         ensures good { IfSome result
-            (λ pin. IsGood W.told tag.relation tag.block (pinned_page pin)) }
+            (λ pin. IsGood W.told tag.checksums tag.relation tag.block (pinned_page pin)) }
     {
         self.slots.get(frame as usize)?.pin(frame, tag)
     }
@@ -141,7 +141,7 @@ impl<W: World> Part<W> {
 
     // Copies the page into the frame's memory; whether it did.
     fn write(&self, frame: u32, tag: Tag, page: &Page) -> bool
-        requires { IsGood W.told tag.relation tag.block page.now }
+        requires { IsGood W.told tag.checksums tag.relation tag.block page.now }
     {
         match self.slots.get(frame as usize) {
             Some(slot) => slot.write(tag, page),
@@ -152,7 +152,7 @@ impl<W: World> Part<W> {
     /// Ends the reading of the tag's page, where the I/O of the reference reads it into the pool.
     pub(crate) fn finish<R: Wait>(&self, rt: &R, tag: Tag, reference: WaitRef, page: Option<&Page>)
         requires tag { FallsTo self.now.share tag }
-        requires good { IfSome page (λ given. IsGood W.told tag.relation tag.block given.now) }
+        requires good { IfSome page (λ given. IsGood W.told tag.checksums tag.relation tag.block given.now) }
     {
         let Some(frame) = self.index(rt).frame(tag, reference) else {
             return;

@@ -31,7 +31,8 @@ impl<'p, W: World> Pin<'p, W> {
     /// The page: the told one of the tag, and valid.
     pub fn page(&self) -> &Page
         ensures page { result.now ≡ pinned_page self.now }
-        ensures good { IsGood W.told (pinned_tag self.now).relation (pinned_tag self.now).block
+        ensures good { IsGood W.told (pinned_tag self.now).checksums (pinned_tag self.now).relation
+            (pinned_tag self.now).block
             result.now }
     {
         match self.claim.get() {

@@ -139,10 +139,15 @@ impl<W: World> Places<W> for &Pool<W> {
         rt: &T,
         relation: u32,
         block: u32,
+        checksums: bool,
         reference: WaitRef,
         page: Option<&Page>,
     ) {
-        let tag = Tag { relation, block };
+        let tag = Tag {
+            relation,
+            block,
+            checksums,
+        };
         self.part(tag).finish(rt, tag, reference, page);
     }
 }

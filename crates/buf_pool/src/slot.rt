@@ -70,7 +70,7 @@ impl<W: World> PageSlot<W> {
     pub(crate) fn pin(&self, frame: u32, tag: Tag) -> Option<Pin<'_, W>>
         ensures tag { IfSome result (λ pin. pinned_tag pin ≡ tag) }
         ensures good { IfSome result
-            (λ pin. IsGood W.told tag.relation tag.block (pinned_page pin)) }
+            (λ pin. IsGood W.told tag.checksums tag.relation tag.block (pinned_page pin)) }
     {
         let claim = self.reader()?;
         let carries = match claim.get() {
@@ -110,7 +110,7 @@ impl<W: World> PageSlot<W> {
 
     /// Copies the page into the slot, where nobody reads or writes it; whether it did.
     pub(crate) fn write(&self, tag: Tag, page: &Page) -> bool
-        requires { IsGood W.told tag.relation tag.block page.now }
+        requires { IsGood W.told tag.checksums tag.relation tag.block page.now }
     {
         let Some(mut carried) = self.take_out() else {
             return false;

@@ -3,7 +3,7 @@ use Rattle.std.proofs.Common.{◌≡◌, ◌≢◌, ℕ, List, ◌++◌, sym}
 use Rattle.std.specs.Prelude.{Option, Some}
 use Rattle.std.specs.List.{All}
 use Rattle.std.proofs.lemmas.Grind.{flat_map-append}
-use Rattle.page_check.specs.SynchronousAnswer.{Entry, Given, Ending, End, Reader}
+use Rattle.page_check.specs.SynchronousAnswer.{Entry, Given, Ending, End, Reading}
 use Rattle.page_check.proofs.AnswersOfLists.{answered_append, answered_more}
 use Rattle.heap_scan.specs.Listing.{TextOf, listing, text_for}
 use Rattle.heap_scan.specs.Warnings.{warning_for, warnings_of}
@@ -28,7 +28,7 @@ module _ {P : Type 0} where
   warnings-append xs ys = flat_map-append warning_for xs ys
 
   -- a job that was listed to its end, and then another
-  unfoldable pub job_append : (text_of : TextOf) (found : Option Reader)
+  unfoldable pub job_append : (text_of : TextOf) (found : Reading)
       (may : Entry P → Type 0) (xs ys : List (Entry P)) (front back early late : List ℕ)
       (some more : PageSums) (end : Option Ending)
       → IsJobAnswer text_of found may xs front early some (Some End)
@@ -49,7 +49,7 @@ module _ {P : Type 0} where
   }
 
   -- a job that did not reach the end of its blocks is one of more
-  unfoldable pub job_more : (text_of : TextOf) (found : Option Reader) (may : Entry P → Type 0)
+  unfoldable pub job_more : (text_of : TextOf) (found : Reading) (may : Entry P → Type 0)
       (xs ys : List (Entry P)) (text warnings : List ℕ) (sums : PageSums) (end : Option Ending)
       → IsEarly end → IsJobAnswer text_of found may xs text warnings sums end
       → IsJobAnswer text_of found may (xs ++ ys) text warnings sums end

@@ -2,7 +2,7 @@
 -- blocks, and how it ended.
 use Rattle.std.specs.Prelude.{◌≡◌, ℕ, List, [], ◌∷◌, map, Option, Some, None}
 use Rattle.std.specs.List.{range_with_len}
-use Rattle.page_check.specs.SynchronousAnswer.{Entry, Given, Ending, Reader}
+use Rattle.page_check.specs.SynchronousAnswer.{Entry, Given, Ending, Reading}
 use Rattle.page_check.specs.IsAnswer.{IsAnswer}
 use Rattle.heap_scan.specs.Listing.{TextOf, listing}
 use Rattle.heap_scan.specs.Warnings.{warnings_of}
@@ -24,7 +24,7 @@ endings_of (Some end) = end ∷ []
 
 -- text, warnings and sums are those of pages that, with this ending, answer the blocks; each page
 -- has the text that is given for it
-pub record IsJobAnswer {P : Type 0} (text_of : TextOf) (found : Option Reader)
+pub record IsJobAnswer {P : Type 0} (text_of : TextOf) (found : Reading)
     (may : Entry P → Type 0) (entries : List (Entry P)) (text warnings : List ℕ) (sums : PageSums)
     (end : Option Ending) : Type 0 where
   pub pages : List (Given P)

@@ -2,7 +2,7 @@
 use Rattle.std.proofs.Common.{◌≡◌, ◌≢◌, ℕ, ◌<◌, ◌≤◌, List, [], ◌∷◌, ◌++◌, map, length, take, Option}
 use Rattle.std.proofs.Common.{Some, None, Result, Ok, Err, refl, sym, ap, ◌∙◌, subst, ⊎_elim, arith}
 use Rattle.std.proofs.lemmas.List.{map-append, length-map, length-take}
-use Rattle.std.specs.Prelude.{option_map}
+use Rattle.std.specs.Prelude.{option_map, cond}
 use Rattle.std.specs.List.{length_refill}
 use Rattle.page_check.specs.Told.{Told}
 use Rattle.aio_disk.specs.Counts.{CountRose, count_plus, HasCause}
@@ -83,7 +83,8 @@ filled-by o e pages is count = subst (λ (z : Option Entry). IsFilledBy z pages)
 -- the pages of a read change nothing of what it is aimed at
 aim-read : (r : ReadIoView) (pages : List (List ℕ)) → record_aim (with_pages r pages) ≡ record_aim r
 aim-read r pages =
-    ap (λ (n : ℕ). n ∷ r.relation ∷ r.first ∷ r.count ∷ map number_of_id r.ids)
+    ap (λ (n : ℕ). n ∷ r.relation ∷ r.first ∷ r.count ∷ cond r.checksums 1 0
+    ∷ map number_of_id r.ids)
     (sym (length_refill (length r.pages) r.pages pages refl))
 
 told-read : {E : Type 0} (told : Option Told) (r : ReadIoView) (res : Result ℕ E)

@@ -1,12 +1,13 @@
 -- Answers to a list that come one after the other, and answers to lists that are joined.
 use Rattle.std.proofs.Common.{◌≡◌, ℕ, ◌+◌, List, [], ◌∷◌, ◌++◌, length, map, refl, sym, ap}
 use Rattle.std.proofs.Common.{◌∙◌, arith, append_assoc, suc, zero}
-use Rattle.std.specs.Prelude.{Option, Some, None, slice_get}
+use Rattle.std.specs.Prelude.{Some, slice_get}
 use Rattle.std.specs.List.{All}
 use Rattle.std.proofs.lemmas.List.{length-map, map-append}
 use Rattle.std.proofs.lemmas.List.Elements.{All-append}
+use Rattle.std.specs.Prelude.{Bool}
+use Rattle.page_check.specs.SynchronousAnswer.{Reading, Known, Unknown}
 use Rattle.page_check.specs.SynchronousAnswer.{Entry, Given, Ending}
-use Rattle.page_check.specs.SynchronousAnswer.{Reader}
 use Rattle.page_check.specs.SynchronousAnswer.{readable_pages}
 use Rattle.page_check.specs.IsAnswer.{IsPrefix, AreFirst, IsGiven, IsAnswer}
 use Rattle.page_check.specs.IsAnswer.{Next, Page, Stop, IsNextPage, IsNext, with_next}
@@ -62,23 +63,24 @@ pub no_others : (end : Ending) → All (λ (other : Ending). other ≡ end) []
 no_others end = λ k d below. absurd (omega arith)
 
 module _ {P : Type 0} where
-  pub first_none : (found : Option Reader) (entries : List (Entry P)) → AreFirst found entries []
-  first_none None entries = (λ k d below. absurd (omega arith), (entries, refl))
-  first_none (Some f) entries = (readable_pages f entries, refl)
+  pub first_none : (found : Reading) (entries : List (Entry P)) → AreFirst found entries []
+  first_none (Unknown checksums) entries = (λ k d below. absurd (omega arith), (entries, refl))
+  first_none (Known f) entries = (readable_pages f entries, refl)
 
-  one_given : (given : Given P) → IsGiven given → All IsGiven (given ∷ [])
-  one_given given is = λ k d below. (let first : k ≡ 0 = omega arith in rw first is)
+  one_given : (checksums : Bool) (given : Given P) → IsGiven checksums given
+      → All (IsGiven checksums) (given ∷ [])
+  one_given checksums given is = λ k d below. (let first : k ≡ 0 = omega arith in rw first is)
 
-  first_next : (found : Option Reader) (entries : List (Entry P)) (pages : List (Given P))
+  first_next : (found : Reading) (entries : List (Entry P)) (pages : List (Given P))
       (given : Given P) → AreFirst found entries pages
       → IsNextPage found entries (length pages) given → AreFirst found entries (pages ++ given ∷ [])
-  first_next None entries pages given first next =
+  first_next (Unknown checksums) entries pages given first next =
       let here : slice_get entries (length (map (λ (g : Given P). g.entry) pages))
       ≡ Some given.entry =
       ap (slice_get entries) (length-map pages (λ (g : Given P). g.entry)) ∙ next.1 in
       let begins =
       begins_next (map (λ (g : Given P). g.entry) pages) entries given.entry first.1 here in (
-        All-append IsGiven pages (given ∷ []) first.0 (one_given given next.0),
+        All-append (IsGiven checksums) pages (given ∷ []) first.0 (one_given checksums given next.0),
         (
           begins.0,
           begins.1
@@ -86,16 +88,16 @@ module _ {P : Type 0} where
               (sym (map-append (λ (g : Given P). g.entry) pages (given ∷ []))),
         ),
       )
-  first_next (Some f) entries pages given first next =
+  first_next (Known f) entries pages given first next =
       begins_next pages (readable_pages f entries) given first next
 
   -- nothing was answered yet
-  pub answered_none : (found : Option Reader) (may : Entry P → Type 0) (entries : List (Entry P))
+  pub answered_none : (found : Reading) (may : Entry P → Type 0) (entries : List (Entry P))
       → IsAnswer found may entries (record { pages = []; endings = [] })
   answered_none found may entries = record { first = first_none found entries; endings = tt }
 
   -- an answer that is next keeps the answers lawful
-  pub answered_next : (found : Option Reader) (may : Entry P → Type 0) (entries : List (Entry P))
+  pub answered_next : (found : Reading) (may : Entry P → Type 0) (entries : List (Entry P))
       (pages : List (Given P)) (next : Next P)
       → IsAnswer found may entries (record { pages = pages; endings = [] })
       → IsNext found may entries (length pages) next
@@ -106,7 +108,7 @@ module _ {P : Type 0} where
       record { first = before.first; endings = (is, no_others end) }
 
   -- and so does the same ending again
-  pub answered_again : (found : Option Reader) (may : Entry P → Type 0) (entries : List (Entry P))
+  pub answered_again : (found : Reading) (may : Entry P → Type 0) (entries : List (Entry P))
       (pages : List (Given P)) (end : Ending) (more : List Ending)
       → IsAnswer found may entries (record { pages = pages; endings = end ∷ more })
       → IsAnswer found may entries (record { pages = pages; endings = end ∷ end ∷ more })

@@ -1,17 +1,17 @@
 -- Answers to no block.
 use Rattle.std.proofs.Common.{List, [], ◌∷◌, refl, arith}
-use Rattle.std.specs.Prelude.{Option, Some, None}
-use Rattle.page_check.specs.SynchronousAnswer.{Entry, End, Reader}
+use Rattle.page_check.specs.SynchronousAnswer.{Reading, Known, Unknown}
+use Rattle.page_check.specs.SynchronousAnswer.{Entry, End}
 use Rattle.page_check.specs.IsAnswer.{IsAnswer, Stop}
 use Rattle.page_check.proofs.AnswersInOrder.{answered_none, answered_next}
 use Rattle.page_check.proofs.NextAnswer.{IsReached, next-end}
 
 -- reading begins at the first entry
-reached_first : {P : Type 0} (found : Option Reader) (es : List (Entry P)) → IsReached found es 0
-reached_first None es = tt
-reached_first (Some f) es = omega arith
+reached_first : {P : Type 0} (found : Reading) (es : List (Entry P)) → IsReached found es 0
+reached_first (Unknown checksums) es = tt
+reached_first (Known f) es = omega arith
 
-module _ {P : Type 0} (found : Option Reader) (may : Entry P → Type 0) where
+module _ {P : Type 0} (found : Reading) (may : Entry P → Type 0) where
   pub answered_no_block : IsAnswer found may [] (record { pages = []; endings = End ∷ [] })
   answered_no_block =
       answered_next found may [] [] (Stop End) (answered_none found may [])

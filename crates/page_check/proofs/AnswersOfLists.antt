@@ -3,10 +3,11 @@ use Rattle.std.proofs.Common.{◌≡◌, ◌≢◌, ◌⊎◌, ℕ, ◌+◌, Lis
 use Rattle.std.proofs.Common.{ap}
 use Rattle.std.proofs.Common.{◌∙◌, arith, append_assoc, append-nil, inl, inr, true, false, subst}
 use Rattle.std.proofs.Common.{length-append}
-use Rattle.std.specs.Prelude.{Option, Some, None, slice_get}
+use Rattle.std.specs.Prelude.{slice_get}
 use Rattle.std.specs.List.{All}
 use Rattle.std.proofs.lemmas.List.{length-map, map-append}
 use Rattle.std.proofs.lemmas.List.Elements.{All-append}
+use Rattle.page_check.specs.SynchronousAnswer.{Reading, Known, Unknown}
 use Rattle.page_check.specs.SynchronousAnswer.{Entry, Given, Ending, End, Invalid, PastEnd, Unread}
 use Rattle.page_check.specs.SynchronousAnswer.{Found, Page, Zeroed, Damaged, Absent, Reader}
 use Rattle.page_check.specs.SynchronousAnswer.{entry_given}
@@ -124,11 +125,11 @@ begins_append {X} front back more begins = (
 
 module _ {P : Type 0} where
   -- the first pages of a list are those of a longer one
-  first_more : (found : Option Reader) (xs ys : List (Entry P)) (pages : List (Given P))
+  first_more : (found : Reading) (xs ys : List (Entry P)) (pages : List (Given P))
       → AreFirst found xs pages → AreFirst found (xs ++ ys) pages
-  first_more None xs ys pages first =
+  first_more (Unknown checksums) xs ys pages first =
       (first.0, begins_more (map (λ (g : Given P). g.entry) pages) xs ys first.1)
-  first_more (Some f) xs ys pages first =
+  first_more (Known f) xs ys pages first =
       begins_trans pages (readable_pages f xs) (readable_pages f (xs ++ ys)) first
       (begins_by f (list_ending f xs) xs ys refl)
 
@@ -142,24 +143,24 @@ module _ {P : Type 0} where
   }
 
   ends_more_told : (f : Reader) (xs ys : List (Entry P)) (k : ℕ) (end : Ending) → end ≢ End
-      → EndsAt (Some f) xs k end → EndsAt (Some f) (xs ++ ys) k end
+      → EndsAt (Known f) xs k end → EndsAt (Known f) (xs ++ ys) k end
   ends_more_told f xs ys k end more ends =
       let same = stopped f xs ys (λ e. more (sym ends.1 ∙ e)) in
       (ends.0 ∙ ap length (sym same.pages), ap (stop_ending f) same.stop ∙ ends.1)
 
-  ending_more : (found : Option Reader) (may : Entry P → Type 0) (xs ys : List (Entry P)) (k : ℕ)
+  ending_more : (found : Reading) (may : Entry P → Type 0) (xs ys : List (Entry P)) (k : ℕ)
       (end : Ending) → end ≢ End → IsEnding found may xs k end → IsEnding found may (xs ++ ys) k end
   ending_more found may xs ys k End more is = absurd (more refl)
   ending_more found may xs ys k (Unread b) more is = stops_more may xs ys k b is
-  ending_more None may xs ys k (Invalid b) more is = stops_more _ xs ys k b is
-  ending_more None may xs ys k (PastEnd b) more is = stops_more _ xs ys k b is
-  ending_more (Some f) may xs ys k (Invalid b) more is =
+  ending_more (Unknown checksums) may xs ys k (Invalid b) more is = stops_more _ xs ys k b is
+  ending_more (Unknown checksums) may xs ys k (PastEnd b) more is = stops_more _ xs ys k b is
+  ending_more (Known f) may xs ys k (Invalid b) more is =
       ends_more_told f xs ys k (Invalid b) (λ e. cc) is
-  ending_more (Some f) may xs ys k (PastEnd b) more is =
+  ending_more (Known f) may xs ys k (PastEnd b) more is =
       ends_more_told f xs ys k (PastEnd b) (λ e. cc) is
 
   -- answers that stopped, or that have no ending yet, are those of any longer list
-  pub answered_more : (found : Option Reader) (may : Entry P → Type 0) (xs ys : List (Entry P))
+  pub answered_more : (found : Reading) (may : Entry P → Type 0) (xs ys : List (Entry P))
       (pages : List (Given P)) (endings : List Ending) → All (λ end. end ≢ End) endings
       → IsAnswer found may xs (record { pages = pages; endings = endings })
       → IsAnswer found may (xs ++ ys) (record { pages = pages; endings = endings })
@@ -174,15 +175,15 @@ module _ {P : Type 0} where
   }
 
   -- a list that was answered to its end, as far as a longer one needs it
-  first_append : (found : Option Reader) (xs ys : List (Entry P)) (front back : List (Given P))
+  first_append : (found : Reading) (xs ys : List (Entry P)) (front back : List (Given P))
       → AreFirst found xs front → EndsAt found xs (length front) End → AreFirst found ys back
       → AreFirst found (xs ++ ys) (front ++ back)
-  first_append None xs ys front back first end second =
+  first_append (Unknown checksums) xs ys front back first end second =
       let entries : List (Given P) → List (Entry P) = map (λ g. g.entry) in
       let all : xs ≡ entries front = begins_all (entries front) xs first.1
       (length-map front (λ (g : Given P). g.entry) ∙ end) in
       let begins = begins_append (entries front) (entries back) ys second.1 in (
-        All-append IsGiven front back first.0 second.0,
+        All-append (IsGiven checksums) front back first.0 second.0,
         (
           begins.0,
           ap (λ (l : List (Entry P)). l ++ ys) all ∙ begins.1
@@ -190,7 +191,7 @@ module _ {P : Type 0} where
               (sym (map-append (λ (g : Given P). g.entry) front back)),
         ),
       )
-  first_append (Some f) xs ys front back first end second =
+  first_append (Known f) xs ys front back first end second =
       let all : readable_pages f xs ≡ front = begins_all front (readable_pages f xs) first end.0 in
       let begins = begins_append front back (readable_pages f ys) second in (
         begins.0,
@@ -198,10 +199,10 @@ module _ {P : Type 0} where
             ∙ begins.1,
       )
 
-  pub length_whole : (found : Option Reader) (xs : List (Entry P)) (front : List (Given P))
+  pub length_whole : (found : Reading) (xs : List (Entry P)) (front : List (Given P))
       → EndsAt found xs (length front) End → length front ≡ length xs
-  length_whole None xs front end = end
-  length_whole (Some f) xs front end = end.0 ∙ (whole f xs [] end.1).all
+  length_whole (Unknown checksums) xs front end = end
+  length_whole (Known f) xs front end = end.0 ∙ (whole f xs [] end.1).all
 
   stops_append : (may : Entry P → Type 0) (xs ys : List (Entry P)) (n k b : ℕ) → n ≡ length xs
       → StopsAt may ys k b → StopsAt may (xs ++ ys) (n + k) b
@@ -212,16 +213,16 @@ module _ {P : Type 0} where
     cause = stops.cause;
   }
 
-  ends_append : (found : Option Reader) (xs ys : List (Entry P)) (front : List (Given P)) (k : ℕ)
+  ends_append : (found : Reading) (xs ys : List (Entry P)) (front : List (Given P)) (k : ℕ)
       (end : Ending) → EndsAt found xs (length front) End → EndsAt found ys k end
       → EndsAt found (xs ++ ys) (length front + k) end
-  ends_append None xs ys front k End all ends = omega (arith, all, ends, length-append xs ys)
-  ends_append None xs ys front k (Invalid b) all ends =
+  ends_append (Unknown checksums) xs ys front k End all ends = omega (arith, all, ends, length-append xs ys)
+  ends_append (Unknown checksums) xs ys front k (Invalid b) all ends =
       stops_append _ xs ys (length front) k b all ends
-  ends_append None xs ys front k (PastEnd b) all ends =
+  ends_append (Unknown checksums) xs ys front k (PastEnd b) all ends =
       stops_append _ xs ys (length front) k b all ends
-  ends_append None xs ys front k (Unread b) all ends = absurd ends
-  ends_append (Some f) xs ys front k end all ends =
+  ends_append (Unknown checksums) xs ys front k (Unread b) all ends = absurd ends
+  ends_append (Known f) xs ys front k end all ends =
       let both = whole f xs ys all.1 in (
         omega (
           arith,
@@ -233,7 +234,7 @@ module _ {P : Type 0} where
         ap (stop_ending f) both.stop ∙ ends.1,
       )
 
-  ending_append : (found : Option Reader) (may : Entry P → Type 0) (xs ys : List (Entry P))
+  ending_append : (found : Reading) (may : Entry P → Type 0) (xs ys : List (Entry P))
       (front : List (Given P)) (k : ℕ) (end : Ending) → EndsAt found xs (length front) End
       → IsEnding found may ys k end → IsEnding found may (xs ++ ys) (length front + k) end
   ending_append found may xs ys front k End all is = ends_append found xs ys front k End all is
@@ -244,7 +245,7 @@ module _ {P : Type 0} where
   ending_append found may xs ys front k (Unread b) all is =
       stops_append may xs ys (length front) k b (length_whole found xs front all) is
 
-  endings_append : (found : Option Reader) (may : Entry P → Type 0) (xs ys : List (Entry P))
+  endings_append : (found : Reading) (may : Entry P → Type 0) (xs ys : List (Entry P))
       (front back : List (Given P)) (endings : List Ending) → EndsAt found xs (length front) End
       → OneEnding (IsEnding found may ys (length back)) endings
       → OneEnding (IsEnding found may (xs ++ ys) (length (front ++ back))) endings
@@ -257,7 +258,7 @@ module _ {P : Type 0} where
       )
 
   -- a list that was answered to its end, and then another
-  pub answered_append : (found : Option Reader) (may : Entry P → Type 0) (xs ys : List (Entry P))
+  pub answered_append : (found : Reading) (may : Entry P → Type 0) (xs ys : List (Entry P))
       (front back : List (Given P)) (endings : List Ending)
       → IsAnswer found may xs (record { pages = front; endings = End ∷ [] })
       → IsAnswer found may ys (record { pages = back; endings = endings })
@@ -271,7 +272,7 @@ module _ {P : Type 0} where
 module _ {P : Type 0} where
   -- all pages of synchronous reads were given
   pub all_given : (f : Reader) (entries : List (Entry P)) (pages : List (Given P))
-      → AreFirst (Some f) entries pages → length pages ≡ length (readable_pages f entries)
+      → AreFirst (Known f) entries pages → length pages ≡ length (readable_pages f entries)
       → readable_pages f entries ≡ pages
   all_given f entries pages first same = begins_all pages (readable_pages f entries) first same
 
@@ -284,7 +285,7 @@ module _ {P : Type 0} where
   -- not read
   pub ended_as_told : (f : Reader) (may : Entry P → Type 0) (entries : List (Entry P))
       (pages : List (Given P)) (end : Ending) (more : List Ending)
-      → IsAnswer (Some f) may entries (record { pages = pages; endings = end ∷ more })
+      → IsAnswer (Known f) may entries (record { pages = pages; endings = end ∷ more })
       → ((readable_pages f entries ≡ pages) × (list_ending f entries ≡ end))
       ⊎ ((b : ℕ) × (end ≡ Unread b))
   ended_as_told f may entries pages (Unread b) more answer = inr (b, refl)

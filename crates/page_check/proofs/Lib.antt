@@ -1,5 +1,6 @@
 pub mod Zeros
 pub mod ValidPages
+pub mod VerifiedPages
 pub mod SynchronousReads
 pub mod ListPlaces
 pub mod NextAnswer

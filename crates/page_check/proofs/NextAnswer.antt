@@ -1,10 +1,11 @@
 -- What may be answered next, by what is found at that place of the list.
 use Rattle.std.proofs.Common.{◌≡◌, ℕ, ◌+◌, ◌≤◌, true, false, List, length, refl, sym, ap, ◌∙◌}
 use Rattle.std.proofs.Common.{arith}
-use Rattle.std.specs.Prelude.{Option, Some, None, IfSome, slice_get}
+use Rattle.std.specs.Prelude.{Option, Some, slice_get}
 use Rattle.std.proofs.lemmas.Option.{slice_get_past}
+use Rattle.page_check.specs.SynchronousAnswer.{Reading, Known, Unknown, IfKnown, IfUnknown}
+use Rattle.page_check.specs.Checksum.{IsValidAs}
 use Rattle.page_check.specs.PageBytes.{IsPage}
-use Rattle.page_check.specs.Verdict.{IsValid}
 use Rattle.page_check.specs.SynchronousAnswer.{Entry, Given, End, Invalid, PastEnd, Unread}
 use Rattle.page_check.specs.SynchronousAnswer.{Found, Page as FoundPage, Zeroed, Damaged, Absent}
 use Rattle.page_check.specs.SynchronousAnswer.{Reader, entry_found, is_page, is_zeroed, found_page}
@@ -16,8 +17,8 @@ use Rattle.page_check.proofs.ListPlaces.{readable_pages-length}
 use Rattle.page_check.proofs.ListPlaces.{readable_pages-at}
 
 -- the first k entries can be read, where the contents are told
-abbrev pub IsReached : {P : Type 0} → Option Reader → List (Entry P) → ℕ → Type 0
-IsReached found es k = IfSome found (λ f. k ≤ read_count f es)
+abbrev pub IsReached : {P : Type 0} → Reading → List (Entry P) → ℕ → Type 0
+IsReached found es k = IfKnown found (λ f. k ≤ read_count f es)
 
 zeros_in : (shown : Found) → is_zeroed shown ≡ true → found_page shown ≡ zero_page
 zeros_in (FoundPage bytes) zeroed = absurd (cc)
@@ -29,16 +30,17 @@ module _ {P : Type 0} (may : Entry P → Type 0) (es : List (Entry P)) (k : ℕ)
     (here : slice_get es k ≡ Some e) where
   -- the page of the entry, or zeros in its place, where it has a page's bytes; and then the next
   -- one is reached
-  pub next-page : (found : Option Reader) (shown : Found) → IsReached found es k
-      → is_page shown ≡ true → IsValid (found_page shown)
-      → IfSome found (λ f. entry_found f e ≡ shown)
+  pub next-page : (found : Reading) (shown : Found) → IsReached found es k
+      → is_page shown ≡ true
+      → IfUnknown found (λ checksums. IsValidAs checksums e.block (found_page shown))
+      → IfKnown found (λ f. entry_found f e ≡ shown)
       → (IsPage (found_page shown) → IsNext found may es k (Page (found_given shown e)))
       × IsReached found es (k + 1)
-  next-page None shown far page valid is = (
+  next-page (Unknown checksums) shown far page valid is = (
     λ bytes. (record { bytes = bytes; valid = valid; zeros = zeros_in shown }, here),
     tt,
   )
-  next-page (Some f) shown far page valid is =
+  next-page (Known f) shown far page valid is =
       let below = count-more f es k e here far (ap is_page is ∙ page) in
       let given = ap {B = Option (Given P)} (λ (r : Found). Some (found_given r e)) is in
       (λ _. readable_pages-at f es k e here below ∙ given, omega (arith, below))
@@ -59,30 +61,30 @@ module _ {P : Type 0} (may : Entry P → Type 0) (es : List (Entry P)) (k : ℕ)
       (stops.0, stops.1 ∙ ap (λ (x : Found). found_ending x e.block) is)
 
   -- that its page is not valid
-  pub next-invalid : (found : Option Reader) → IsReached found es k
-      → IfSome found (λ f. entry_found f e ≡ Damaged)
+  pub next-invalid : (found : Reading) → IsReached found es k
+      → IfKnown found (λ f. entry_found f e ≡ Damaged)
       → IsNext found may es k (Stop (Invalid e.block))
-  next-invalid None far is = record { next = e; here = here; named = refl; cause = tt }
-  next-invalid (Some f) far is = ends_at f Damaged far is refl
+  next-invalid (Unknown checksums) far is = record { next = e; here = here; named = refl; cause = tt }
+  next-invalid (Known f) far is = ends_at f Damaged far is refl
 
   -- that there is no such block
-  pub next-past-end : (found : Option Reader) → IsReached found es k
-      → IfSome found (λ f. entry_found f e ≡ Absent)
+  pub next-past-end : (found : Reading) → IsReached found es k
+      → IfKnown found (λ f. entry_found f e ≡ Absent)
       → IsNext found may es k (Stop (PastEnd e.block))
-  next-past-end None far is = record { next = e; here = here; named = refl; cause = tt }
-  next-past-end (Some f) far is = ends_at f Absent far is refl
+  next-past-end (Unknown checksums) far is = record { next = e; here = here; named = refl; cause = tt }
+  next-past-end (Known f) far is = ends_at f Absent far is refl
 
   -- that it was not read
-  pub next-unread : (found : Option Reader) → may e → IsNext found may es k (Stop (Unread e.block))
-  next-unread None cause = record { next = e; here = here; named = refl; cause = cause }
-  next-unread (Some f) cause = record { next = e; here = here; named = refl; cause = cause }
+  pub next-unread : (found : Reading) → may e → IsNext found may es k (Stop (Unread e.block))
+  next-unread (Unknown checksums) cause = record { next = e; here = here; named = refl; cause = cause }
+  next-unread (Known f) cause = record { next = e; here = here; named = refl; cause = cause }
 
 -- the end, behind the last entry
 pub next-end : {P : Type 0} (may : Entry P → Type 0) (es : List (Entry P)) (k : ℕ)
-    (found : Option Reader) → IsReached found es k → k ≡ length es
+    (found : Reading) → IsReached found es k → k ≡ length es
     → IsNext found may es k (Stop End)
-next-end may es k None far all = all
-next-end {P} may es k (Some f) far all =
+next-end may es k (Unknown checksums) far all = all
+next-end {P} may es k (Known f) far all =
     let within = count-within f es in
     let count : read_count f es ≡ length es = omega arith in
     let none = slice_get_past es (read_count f es) (omega arith) in

@@ -3,9 +3,10 @@ use Rattle.std.proofs.Common.{◌≡◌, ◌≢◌, ℕ, ◌<◌, ◌≤◌, suc
 use Rattle.std.proofs.Common.{false, refl, ap, arith}
 use Rattle.std.specs.Prelude.{Some, None, nat_le, slice_get}
 use Rattle.std.proofs.lemmas.Bool.Decides.{nat_tests}
+use Rattle.std.specs.Prelude.{Bool}
+use Rattle.page_check.specs.Checksum.{IsValidAs, verdict_as}
 use Rattle.page_check.specs.declared.verdict.Verdict.{Verdict}
 use Rattle.page_check.specs.declared.verdict.Verdict.TheVariants.{Zero, Sane, Bad}
-use Rattle.page_check.specs.Verdict.{verdict_of, IsValid}
 use Rattle.page_check.specs.Told.{Told, relation_block_count, relation_page}
 use Rattle.page_check.specs.SynchronousAnswer.{Entry, Page, Damaged, Absent, Reader}
 use Rattle.page_check.specs.SynchronousAnswer.{found_at, found_by_verdict}
@@ -18,31 +19,32 @@ found_valid Zero page valid = refl
 found_valid Sane page valid = refl
 
 -- a valid page of a block that the relation has is found
-pub found_at-page : (told : Told) (relation block : ℕ) → block < relation_block_count told relation
-    → IsValid (relation_page told relation block)
-    → found_at told relation block ≡ Page (relation_page told relation block)
+pub found_at-page : (checksums : Bool) (told : Told) (relation block : ℕ)
+    → block < relation_block_count told relation
+    → IsValidAs checksums block (relation_page told relation block)
+    → found_at checksums told relation block ≡ Page (relation_page told relation block)
 unfolding found_at
-found_at-page told relation block below valid =
+found_at-page checksums told relation block below valid =
     let here : nat_le (relation_block_count told relation) block ≡ false = grind (arith, nat_tests)
     in
-    rw here (found_valid (verdict_of (relation_page told relation block))
+    rw here (found_valid (verdict_as checksums block (relation_page told relation block))
     (relation_page told relation block) valid)
 
-pub found_at-damaged : (told : Told) (relation block : ℕ)
+pub found_at-damaged : (checksums : Bool) (told : Told) (relation block : ℕ)
     → block < relation_block_count told relation
-    → verdict_of (relation_page told relation block) ≡ Bad
-    → found_at told relation block ≡ Damaged
+    → verdict_as checksums block (relation_page told relation block) ≡ Bad
+    → found_at checksums told relation block ≡ Damaged
 unfolding found_at
-found_at-damaged told relation block below bad =
+found_at-damaged checksums told relation block below bad =
     let here : nat_le (relation_block_count told relation) block ≡ false = grind (arith, nat_tests)
     in
     rw (here, bad) refl
 
-pub found_at-absent : (told : Told) (relation block : ℕ)
+pub found_at-absent : (checksums : Bool) (told : Told) (relation block : ℕ)
     → relation_block_count told relation ≤ block
-    → found_at told relation block ≡ Absent
+    → found_at checksums told relation block ≡ Absent
 unfolding found_at
-found_at-absent told relation block past =
+found_at-absent checksums told relation block past =
     let here : nat_le (relation_block_count told relation) block ≡ true = grind (arith, nat_tests)
     in
     rw here refl

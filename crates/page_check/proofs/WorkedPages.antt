@@ -1,9 +1,11 @@
 -- Worked pages: what the definitions say of them.
 use Rattle.std.proofs.Common.{◌≡◌, ℕ, ◌/◌, ◌%◌, List, [], ◌∷◌, ◌++◌, replicate, refl, length, zero}
 use Rattle.std.proofs.Common.{suc, map, ◌<◌, arith, ap, sym, ◌∙◌, Bool, true, false}
-use Rattle.std.specs.Prelude.{Option, Some, None, ⊤}
+use Rattle.std.specs.Prelude.{⊤}
 use Rattle.std.proofs.lemmas.Option.{slice_get_within, same_Some}
 use Rattle.std.specs.List.{range_with_len}
+use Rattle.page_check.specs.SynchronousAnswer.{Reading, Known, Unknown}
+use Rattle.page_check.specs.Checksum.{verdict_as}
 use Rattle.page_check.specs.Told.{Told, told_in, segments_joined, block_contents, block_count}
 use Rattle.page_check.specs.Told.{relation_block_count}
 use Rattle.page_check.specs.SynchronousAnswer.{Entry, End, Invalid, PastEnd, found_at, read_count}
@@ -114,28 +116,28 @@ of_one_file bytes = told_in 131072 ((bytes ∷ []) ∷ [])
 abbrev bad_at_12 : Told
 bad_at_12 = of_one_file (pages 12 (flagged ++ pages 1 []))
 
-two_before_the_bad : (length (readable_pages (found_at bad_at_12) (blocks 10 4)) ≡ 2)
-    × (list_ending (found_at bad_at_12) (blocks 10 4) ≡ Invalid 12)
-unfolding read_count found_at segments_joined block_contents block_count verdict_of header_of u16_at
+two_before_the_bad : (length (readable_pages (found_at false bad_at_12) (blocks 10 4)) ≡ 2)
+    × (list_ending (found_at false bad_at_12) (blocks 10 4) ≡ Invalid 12)
+unfolding read_count found_at segments_joined block_contents block_count verdict_as header_of u16_at
     u32_at
 two_before_the_bad = (refl, refl)
 
 -- with damaged pages zeroed all four are given, the third as zeros
 abbrev zeroing_at_12 : Reader
-zeroing_at_12 = zeroing true (found_at bad_at_12)
+zeroing_at_12 = zeroing true (found_at false bad_at_12)
 
 zeros_in_place_of_the_bad :
     (map {B = ℕ × Bool} (λ (g : Given (Unit {0})). (g.entry.block, g.zeroed))
     (readable_pages zeroing_at_12 (blocks 10 4))
     ≡ ((10, false) ∷ (11, false) ∷ (12, true) ∷ (13, false) ∷ []))
     × (list_ending zeroing_at_12 (blocks 10 4) ≡ End)
-unfolding read_count found_at segments_joined block_contents block_count verdict_of header_of u16_at
+unfolding read_count found_at segments_joined block_contents block_count verdict_as header_of u16_at
     u32_at
 zeros_in_place_of_the_bad = (refl, refl)
 
 the_zeroed_page_has_no_set_byte : readable_pages zeroing_at_12 (blocks 12 1)
     ≡ (record { entry = block 12; page = replicate 8192 0; zeroed = true } ∷ [])
-unfolding read_count found_at segments_joined block_contents block_count verdict_of header_of u16_at
+unfolding read_count found_at segments_joined block_contents block_count verdict_as header_of u16_at
     u32_at
 the_zeroed_page_has_no_set_byte = refl
 
@@ -144,45 +146,45 @@ abbrev four : Told
 four = of_one_file (pages 4 [])
 
 one_before_the_end :
-    (readable_pages (found_at four) (blocks 3 2)
+    (readable_pages (found_at false four) (blocks 3 2)
     ≡ (of_block 3 ∷ []))
-    × (list_ending (found_at four) (blocks 3 2) ≡ PastEnd 4)
-unfolding read_count found_at segments_joined block_contents block_count verdict_of header_of u16_at
+    × (list_ending (found_at false four) (blocks 3 2) ≡ PastEnd 4)
+unfolding read_count found_at segments_joined block_contents block_count verdict_as header_of u16_at
     u32_at
 one_before_the_end = (refl, refl)
 
 -- but a block that is not there is no page of zeros
-no_zeros_past_the_end : list_ending (zeroing true (found_at four)) (blocks 3 2) ≡ PastEnd 4
-unfolding read_count found_at segments_joined block_contents block_count verdict_of header_of u16_at
+no_zeros_past_the_end : list_ending (zeroing true (found_at false four)) (blocks 3 2) ≡ PastEnd 4
+unfolding read_count found_at segments_joined block_contents block_count verdict_as header_of u16_at
     u32_at
 no_zeros_past_the_end = refl
 
 -- 8191 bytes are no block, and an empty list ends at once
 no_block : (relation_block_count (of_one_file (replicate 8191 0)) 0 ≡ 0)
-    × (list_ending {P = Unit {0}} (found_at (of_one_file (replicate 8191 0))) [] ≡ End)
+    × (list_ending {P = Unit {0}} (found_at false (of_one_file (replicate 8191 0))) [] ≡ End)
 unfolding segments_joined block_count read_count
 no_block = (refl, refl)
 
 -- what may be answered to the blocks 3 and 4 of the four pages
 abbrev IsAnswered : Answers (Unit {0}) → Type 0
-IsAnswered = IsAnswer (Some (found_at four)) (λ _. ⊤) (blocks 3 2)
+IsAnswered = IsAnswer (Known (found_at false four)) (λ _. ⊤) (blocks 3 2)
 
 abbrev three : Given (Unit {0})
 three = of_block 3
 
 -- nothing yet, or the page of block 3
 no_answer_yet : IsAnswered (record { pages = []; endings = [] })
-no_answer_yet = record { first = (readable_pages (found_at four) (blocks 3 2), refl); endings = tt }
+no_answer_yet = record { first = (readable_pages (found_at false four) (blocks 3 2), refl); endings = tt }
 
 one_page_so_far : IsAnswered (record { pages = three ∷ []; endings = [] })
-unfolding read_count found_at segments_joined block_contents block_count verdict_of header_of u16_at
+unfolding read_count found_at segments_joined block_contents block_count verdict_as header_of u16_at
     u32_at
 one_page_so_far = record { first = ([], refl); endings = tt }
 
 -- then the ending, which stays
 past_the_end_twice : IsAnswered
     (record { pages = three ∷ []; endings = PastEnd 4 ∷ PastEnd 4 ∷ [] })
-unfolding read_count found_at segments_joined block_contents block_count verdict_of header_of u16_at
+unfolding read_count found_at segments_joined block_contents block_count verdict_as header_of u16_at
     u32_at
 past_the_end_twice = record {
   first = ([], refl);
@@ -190,11 +192,11 @@ past_the_end_twice = record {
 }
 
 -- all pages of the blocks 2 and 3, then the end, which stays
-the_end_twice : IsAnswer (Some (found_at four)) (λ _. ⊤) (blocks 2 2) (record {
+the_end_twice : IsAnswer (Known (found_at false four)) (λ _. ⊤) (blocks 2 2) (record {
   pages = of_block 2 ∷ three ∷ [];
   endings = End ∷ End ∷ [];
 })
-unfolding read_count found_at segments_joined block_contents block_count verdict_of header_of u16_at
+unfolding read_count found_at segments_joined block_contents block_count verdict_as header_of u16_at
     u32_at
 the_end_twice = record {
   first = ([], refl);
@@ -203,7 +205,7 @@ the_end_twice = record {
 
 -- the block behind the end may be one that was not read
 unread_where_reading_stops : IsAnswered (record { pages = three ∷ []; endings = Unread 4 ∷ [] })
-unfolding read_count found_at segments_joined block_contents block_count verdict_of header_of u16_at
+unfolding read_count found_at segments_joined block_contents block_count verdict_as header_of u16_at
     u32_at
 unread_where_reading_stops = record {
   first = ([], refl);
@@ -214,7 +216,7 @@ unread_where_reading_stops = record {
 }
 
 -- but none behind the last block was not read
-none_unread_behind_the_last : (found : Option Reader) (b : ℕ) (pages : List (Given (Unit {0})))
+none_unread_behind_the_last : (found : Reading) (b : ℕ) (pages : List (Given (Unit {0})))
     → length pages ≡ 2
     → IsAnswer found (λ _. ⊤) (blocks 3 2) (record { pages = pages; endings = Unread b ∷ [] }) → ⊥
 none_unread_behind_the_last found b pages two answer =
@@ -225,13 +227,13 @@ none_unread_behind_the_last found b pages two answer =
 
 -- where nothing is told, the end comes behind the last block alone
 no_end_before_the_last : (pages : List (Given (Unit {0})))
-    → IsAnswer None (λ _. ⊤) (blocks 3 2) (record { pages = pages; endings = End ∷ [] })
+    → IsAnswer (Unknown false) (λ _. ⊤) (blocks 3 2) (record { pages = pages; endings = End ∷ [] })
     → length pages ≡ 2
 no_end_before_the_last pages answer = answer.endings.0
 
 -- and an invalid page is that of the next block
 invalid_is_the_next : (b : ℕ)
-    → IsAnswer None (λ _. ⊤) (blocks 3 2) (record { pages = []; endings = Invalid b ∷ [] }) → b ≡ 3
+    → IsAnswer (Unknown false) (λ _. ⊤) (blocks 3 2) (record { pages = []; endings = Invalid b ∷ [] }) → b ≡ 3
 invalid_is_the_next b answer =
     let stops = answer.endings.0 in
     let next = same_Some (block 3) stops.next stops.here in

@@ -2,12 +2,13 @@
 -- an ending.
 use Rattle.std.specs.Prelude.{◌≡◌, ℕ, true, List, [], ◌∷◌, ◌++◌, length, map}
 use Rattle.std.specs.Prelude.{slice_get, ⊤}
-use Rattle.std.specs.Prelude.{Option, Some, None}
+use Rattle.std.specs.Prelude.{Bool, Some}
 use Rattle.std.specs.List.{All}
 use Rattle.page_check.specs.PageBytes.{IsPage}
-use Rattle.page_check.specs.Verdict.{IsValid}
+use Rattle.page_check.specs.Checksum.{IsValidAs}
 use Rattle.page_check.specs.SynchronousAnswer.{Entry, Given, Ending, End, Invalid, PastEnd, Unread}
-use Rattle.page_check.specs.SynchronousAnswer.{Reader, zero_page, readable_pages, list_ending}
+use Rattle.page_check.specs.SynchronousAnswer.{Reading, Known, Unknown, zero_page}
+use Rattle.page_check.specs.SynchronousAnswer.{readable_pages, list_ending}
 
 -- the answers so far: pages, then one ending as often as it was asked for
 pub record Answers (P : Type 0) : Type 0 where
@@ -32,38 +33,38 @@ module _ {P : Type 0} where
     pub named : block ≡ next.block
     pub cause : may next
 
-  -- a page that may be given where nothing is told: one of 8192 bytes that is valid, and zeros
-  -- where it was zeroed
-  pub record IsGiven (given : Given P) : Type 0 where
+  -- a page that may be given where nothing is told: one of 8192 bytes that is valid as its block,
+  -- and zeros where it was zeroed
+  pub record IsGiven (checksums : Bool) (given : Given P) : Type 0 where
     pub bytes : IsPage given.page
-    pub valid : IsValid given.page
+    pub valid : IsValidAs checksums given.entry.block given.page
     pub zeros : given.zeroed ≡ true → given.page ≡ zero_page
 
   -- the first pages: those of synchronous reads; where nothing is told, such ones of the first
   -- entries
-  abbrev pub AreFirst : Option Reader → List (Entry P) → List (Given P) → Type 0
-  AreFirst (Some found) entries pages = IsPrefix pages (readable_pages found entries)
-  AreFirst None entries pages =
-      All IsGiven pages × IsPrefix (map (λ g. g.entry) pages) entries
+  abbrev pub AreFirst : Reading → List (Entry P) → List (Given P) → Type 0
+  AreFirst (Known found) entries pages = IsPrefix pages (readable_pages found entries)
+  AreFirst (Unknown checksums) entries pages =
+      All (IsGiven checksums) pages × IsPrefix (map (λ g. g.entry) pages) entries
 
   -- how the list ends behind the first k pages: as synchronous reads do, behind all of theirs;
   -- where nothing is told, behind the last entry, or at the next one
-  abbrev pub EndsAt : Option Reader → List (Entry P) → ℕ → Ending → Type 0
-  EndsAt (Some found) entries k end =
+  abbrev pub EndsAt : Reading → List (Entry P) → ℕ → Ending → Type 0
+  EndsAt (Known found) entries k end =
       (k ≡ length (readable_pages found entries)) × (list_ending found entries ≡ end)
-  EndsAt None entries k End = k ≡ length entries
-  EndsAt None entries k (Invalid b) = StopsAt (λ _. ⊤) entries k b
-  EndsAt None entries k (PastEnd b) = StopsAt (λ _. ⊤) entries k b
-  EndsAt None entries k (Unread b) = ⊥
+  EndsAt (Unknown checksums) entries k End = k ≡ length entries
+  EndsAt (Unknown checksums) entries k (Invalid b) = StopsAt (λ _. ⊤) entries k b
+  EndsAt (Unknown checksums) entries k (PastEnd b) = StopsAt (λ _. ⊤) entries k b
+  EndsAt (Unknown checksums) entries k (Unread b) = ⊥
 
   -- an ending behind the first k pages: that one, or an entry that was not read
-  abbrev pub IsEnding : Option Reader → (Entry P → Type 0) → List (Entry P) → ℕ → Ending → Type 0
+  abbrev pub IsEnding : Reading → (Entry P → Type 0) → List (Entry P) → ℕ → Ending → Type 0
   IsEnding found may entries k (Unread b) = StopsAt may entries k b
   IsEnding found may entries k End = EndsAt found entries k End
   IsEnding found may entries k (Invalid b) = EndsAt found entries k (Invalid b)
   IsEnding found may entries k (PastEnd b) = EndsAt found entries k (PastEnd b)
 
-  pub record IsAnswer (found : Option Reader) (may : Entry P → Type 0) (entries : List (Entry P))
+  pub record IsAnswer (found : Reading) (may : Entry P → Type 0) (entries : List (Entry P))
       (answers : Answers P) : Type 0 where
     pub first : AreFirst found entries answers.pages
     pub endings : OneEnding (IsEnding found may entries (length answers.pages)) answers.endings
@@ -75,12 +76,12 @@ pub data Next (P : Type 0) : Type 0 where
 
 module _ {P : Type 0} where
   -- what may be answered behind the first k pages
-  abbrev pub IsNextPage : Option Reader → List (Entry P) → ℕ → Given P → Type 0
-  IsNextPage (Some found) entries k given = slice_get (readable_pages found entries) k ≡ Some given
-  IsNextPage None entries k given =
-      IsGiven given × (slice_get entries k ≡ Some given.entry)
+  abbrev pub IsNextPage : Reading → List (Entry P) → ℕ → Given P → Type 0
+  IsNextPage (Known found) entries k given = slice_get (readable_pages found entries) k ≡ Some given
+  IsNextPage (Unknown checksums) entries k given =
+      IsGiven checksums given × (slice_get entries k ≡ Some given.entry)
 
-  abbrev pub IsNext : Option Reader → (Entry P → Type 0) → List (Entry P) → ℕ → Next P → Type 0
+  abbrev pub IsNext : Reading → (Entry P → Type 0) → List (Entry P) → ℕ → Next P → Type 0
   IsNext found may entries k (Page given) = IsNextPage found entries k given
   IsNext found may entries k (Stop end) = IsEnding found may entries k end
 

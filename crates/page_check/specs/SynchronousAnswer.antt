@@ -3,10 +3,10 @@ use Rattle.std.specs.Prelude.{ℕ, Bool, true, false, nat_le, if◌then◌else�
 use Rattle.std.specs.Prelude.{slice_get, replicate, cond}
 use Rattle.std.specs.Prelude.{Option, Some, None}
 use Rattle.std.specs.List.{prefix_len}
-use Rattle.std.specs.Option.{option_map}
 use Rattle.page_check.specs.declared.verdict.Verdict.{Verdict}
 use Rattle.page_check.specs.declared.verdict.Verdict.TheVariants.{Zero, Sane, Bad}
-use Rattle.page_check.specs.Verdict.{verdict_of}
+use Rattle.page_check.specs.declared.rules.PageRules.{PageRules}
+use Rattle.page_check.specs.Checksum.{verdict_as}
 use Rattle.page_check.specs.Told.{Told, relation_block_count, relation_page}
 
 -- a block that is asked for, with the data that the asker keeps for it (`per_buffer_data` of
@@ -47,11 +47,11 @@ found_by_verdict Sane page = Page page
 abbrev pub Reader : Type 0
 Reader = ℕ → ℕ → Found
 
--- by the contents that are told
-unfoldable pub found_at : Told → Reader
-found_at told relation block =
+-- by the contents that are told, with checksums verified or not
+unfoldable pub found_at : Bool → Told → Reader
+found_at checksums told relation block =
     if nat_le (relation_block_count told relation) block then Absent
-    else found_by_verdict (verdict_of (relation_page told relation block))
+    else found_by_verdict (verdict_as checksums block (relation_page told relation block))
     (relation_page told relation block)
 
 -- a Bad page is given as zeros (`zero_damaged_pages`)
@@ -66,8 +66,23 @@ abbrev pub zeroing : Bool → Reader → Reader
 zeroing zero found =
     λ relation block. cond zero (zeroed_if_damaged (found relation block)) (found relation block)
 
-abbrev pub reader_of : Bool → Option Told → Option Reader
-reader_of zero told = option_map (λ t. zeroing zero (found_at t)) told
+-- what is known of the pages that are read: what each block gives, or, where nothing is told,
+-- whether their checksums were verified
+pub data Reading : Type 0 where
+  Known : (found : Reader) → Reading
+  Unknown : (checksums : Bool) → Reading
+
+abbrev pub IfKnown : Reading → (Reader → Type 0) → Type 0
+IfKnown (Known found) holds = holds found
+IfKnown (Unknown checksums) holds = Unit {0}
+
+abbrev pub IfUnknown : Reading → (Bool → Type 0) → Type 0
+IfUnknown (Known found) holds = Unit {0}
+IfUnknown (Unknown checksums) holds = holds checksums
+
+abbrev pub reading_of : PageRules → Option Told → Reading
+reading_of rules None = Unknown rules.checksums
+reading_of rules (Some told) = Known (zeroing rules.zero (found_at rules.checksums told))
 
 -- a page without a set byte
 abbrev pub zero_page : List ℕ

@@ -7,15 +7,19 @@
 //! blocks; and `IsAnswer`, what a scan may have answered so far.
 #![tactic(auto)]
 
+mod checksum;
 mod fields;
 pub mod laws;
 mod page;
+mod rules;
 mod verdict;
 mod world;
 
+pub use checksum::{check_as, page_checksum};
 pub use fields::{
     Kind, LinePointer, PageHeader, count, header, line_pointer, line_pointer_at, read_u16, read_u32,
 };
 pub use page::{PAGE_SIZE, Page, split_bytes};
+pub use rules::PageRules;
 pub use verdict::{Verdict, check};
 pub use world::World;

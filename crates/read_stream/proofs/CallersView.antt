@@ -4,9 +4,10 @@ use Rattle.std.proofs.Common.{refl, subst, sym}
 use Rattle.std.proofs.lemmas.List.{length-map}
 use Rattle.std.specs.Prelude.{Option, IfSome, slice_get}
 use Rattle.std.specs.declared.snapshot.Snapshot.{Snapshot}
+use Rattle.page_check.specs.declared.rules.PageRules.{PageRules}
 use Rattle.page_check.specs.declared.world.World.{Ghosts as WorldGhosts}
 use Rattle.page_check.specs.Told.{Told}
-use Rattle.page_check.specs.SynchronousAnswer.{Entry, reader_of}
+use Rattle.page_check.specs.SynchronousAnswer.{Entry, reading_of}
 use Rattle.page_check.specs.IsAnswer.{IfPage, IsNext, Next as Said, Page as SaidPage}
 use Rattle.page_check.specs.IsAnswer.{Stop as SaidStop}
 use Rattle.aio_handle.specs.ContractViews.{ActorView}
@@ -73,10 +74,10 @@ ending_again {W} {S} {P} was n x answer again =
 -- a page that is answered is that of a block left
 page_left : {P : Type 0} (told : Option Told) (s : StreamView P) (may : Entry P → Type 0)
     (x : Said P)
-    → IsNext (reader_of s.settings.zero told) may (stream_entries s.relation s.blocks) s.given x
+    → IsNext (reading_of s.settings.rules told) may (stream_entries s.relation s.blocks) s.given x
     → IfPage x (λ _. s.given < length s.blocks)
 page_left told s may (SaidPage g) is =
-    let within = page_within (reader_of s.settings.zero told) may
+    let within = page_within (reading_of s.settings.rules told) may
     (stream_entries s.relation s.blocks) s.given g is in
     let many = length-map s.blocks (stream_entry s.relation) in omega arith
 page_left told s may (SaidStop end) is = tt
@@ -84,22 +85,22 @@ page_left told s may (SaidStop end) is = tt
 module _ {W S P : Type 0} (left : S → List (ℕ × P)) (world : WorldGhosts W) where
   pub answer_seen : (s m : ReadStream W S P) (noted : Snapshot ActorView) (now : ActorView)
       (x : Said P) → m ≡ record s { actor_is = noted } → IsOpen left world m
-      → IsNext (reader_of m.scope.zero world.told) (MayBeUnread m.scope.was.value now.known)
+      → IsNext (reading_of m.scope.rules world.told) (MayBeUnread m.scope.was.value now.known)
       (entries_at_open left world m) (stream_view left m).given x
-      → IfZeroed x (s.desk.now.settings.zero ≡ true)
+      → IfZeroed x (s.desk.now.settings.rules.zero ≡ true)
       → IsStreamAnswer world.told (stream_view left s) now x
   answer_seen s m noted now x same o next zeroed =
       let v : StreamView P = stream_view left s in
-      let settled = subst (λ (z : Bool). IsNext (reader_of z world.told)
+      let settled = subst (λ (z : PageRules). IsNext (reading_of z world.told)
       (MayBeUnread m.scope.was.value now.known) (entries_at_open left world m)
-      (stream_view left m).given x) o.between.invariant.set_up.zero next in
-      let here = subst (λ (z : ReadStream W S P). IsNext (reader_of z.desk.now.settings.zero
+      (stream_view left m).given x) o.between.invariant.set_up.rules next in
+      let here = subst (λ (z : ReadStream W S P). IsNext (reading_of z.desk.now.settings.rules
       world.told)
       (MayBeUnread z.scope.was.value now.known) (entries_at_open left world z)
       (stream_view left z).given x) same settled in
       record {
         next = here;
-        valid = next_valid v.settings.zero world.told (MayBeUnread v.actor_was now.known)
+        valid = next_valid v.settings.rules world.told (MayBeUnread v.actor_was now.known)
             (stream_entries v.relation v.blocks) v.given x here;
         zeroed = zeroed;
         within = page_left world.told v (MayBeUnread v.actor_was now.known) x here;

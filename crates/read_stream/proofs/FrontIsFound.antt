@@ -58,7 +58,7 @@ module _ {W S P : Type 0} (left : S → List (ℕ × P)) (world : WorldGhosts W)
   -- it is in the pool
   pub found_pinned : (pin : Pin W) (block : ℕ) → Underway left world p s
       → HasInFront s.desk.now.blocks.queue.items block []
-      → IsGood world.told s.scope.relation block (pinned_page pin)
+      → IsGood world.told s.scope.rules.checksums s.scope.relation block (pinned_page pin)
       → IsBetweenCalls left world p (with_at_hand s (at_hand.Pinned pin))
   found_pinned pin block u f good =
       let g = u.running in record {

@@ -87,7 +87,7 @@ module _ {W S P : Type 0} (left : S → List (ℕ × P)) (world : WorldGhosts W)
       g.reads.reads_for e at in
       let taken = u.invariant.records.issued.records.ended_records e
       (first-in s.desk.now.reads.ended.items e at) in
-      (omega arith, taken.fits, taken.has_ended, s.scope.zero, taken.is_stream_record.ids)
+      (omega arith, taken.fits, taken.has_ended, s.scope.rules.zero, taken.is_stream_record.ids)
 
   -- where the block at the front is read and started, not all records are free
   pub some_read : (block : ℕ) → Underway left world p s

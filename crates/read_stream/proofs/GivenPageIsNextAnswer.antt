@@ -1,4 +1,5 @@
 -- What a stream has at hand is the next answer.
+use Rattle.std.specs.Prelude.{Bool}
 use Rattle.std.proofs.Common.{◌≡◌, ℕ, ◌+◌, ◌-◌, List, [], ◌∷◌, ◌++◌, map, drop, true, false, refl}
 use Rattle.std.proofs.Common.{subst, arith}
 use Rattle.std.specs.Prelude.{None, Option, IfSome, is_some, slice_get}
@@ -43,20 +44,20 @@ module _ {W S P : Type 0} (left : S → List (ℕ × P)) (world : WorldGhosts W)
       (slice_get s.desk.now.reads.ended.items 0)
 
   abbrev IsRight : AtHand W → Type 0
-  IsRight h = IsRightAtHand world.told s.scope.relation s.desk.now.reads.ended.items queue h
+  IsRight h = IsRightAtHand world.told s.scope.rules.checksums s.scope.relation s.desk.now.reads.ended.items queue h
 
   -- an answer that gives a page may be answered, and the blocks up to it can be read
   abbrev IsNextPage : Said P → Type 0
   IsNextPage x = (IfPage x IsPage → MayAnswer left world p s x)
-      × ReadableUpTo s.scope.zero world.told (returned_count left s + 1)
+      × ReadableUpTo s.scope.rules world.told (returned_count left s + 1)
       (entries_at_open left world s)
 
   pinned-next : (page : List ℕ) (block : ℕ) (f : HasInFront queue block [])
-      → IsGood world.told s.scope.relation block page → HasPosition left world s
+      → IsGood world.told s.scope.rules.checksums s.scope.relation block page → HasPosition left world s
       → IsNextPage (page_answer s.scope.relation block f.asked.per_buffer_data page false)
   pinned-next page block f good at =
       let item : ℕ × P = (block, f.asked.per_buffer_data) in
-      next-page s.scope.zero (MayBeUnread s.scope.was.value p) (entries_at_open left world s)
+      next-page s.scope.rules (MayBeUnread s.scope.was.value p) (entries_at_open left world s)
       (returned_count left s) (stream_entry s.scope.relation item)
       (mapped-at (stream_entry s.scope.relation) (list_at_open left world s) _ item
       (here-at (list_at_open left world s) _ item rest
@@ -119,17 +120,17 @@ abbrev pub SaysAtHand : {W P : Type 0} → AtHand W → Said P → Type 0
 SaysAtHand h x = (pages_given x ≡ lent_count h) × (ending_at_hand h ≡ answered_stop x)
 
 module _ {W P : Type 0} where
-  pub pages_answered : (told : Option Told) (relation : ℕ) (ended : List EndedRead)
-      (queue : List (QueuedBlock P)) (h : AtHand W) → IsRightAtHand told relation ended queue h
+  pub pages_answered : (told : Option Told) (sums : Bool) (relation : ℕ) (ended : List EndedRead)
+      (queue : List (QueuedBlock P)) (h : AtHand W) → IsRightAtHand told sums relation ended queue h
       → HasAnswer h
       → SaysAtHand h (answer_with relation h (slice_get queue 0) (slice_get ended 0))
-  pages_answered told relation ended queue at_hand.Nothing right has = absurd has
-  pages_answered told relation ended queue (at_hand.Pinned pin) (block, f, good) has =
+  pages_answered told sums relation ended queue at_hand.Nothing right has = absurd has
+  pages_answered told sums relation ended queue (at_hand.Pinned pin) (block, f, good) has =
       rw f.first (refl, refl)
-  pages_answered told relation ended queue at_hand.Lent (block, o) has =
+  pages_answered told sums relation ended queue at_hand.Lent (block, o) has =
       rw (o.in_front.first, o.first) (refl, refl)
-  pages_answered told relation ended queue (at_hand.Stopped block why) right has = (refl, refl)
-  pages_answered told relation ended queue at_hand.Ended right has = (refl, refl)
+  pages_answered told sums relation ended queue (at_hand.Stopped block why) right has = (refl, refl)
+  pages_answered told sums relation ended queue at_hand.Ended right has = (refl, refl)
 
 -- where the stream has ended, something was answered, and no page is lent
 pub ended_answers : {W : Type 0} (h : AtHand W) → true ≡ is_some (ending_at_hand h)

@@ -7,7 +7,7 @@ use Rattle.aio_word.specs.declared.Config.{Config}
 use Rattle.aio_word.specs.Tokens.{AppendsMarks}
 use Rattle.aio_handle.specs.Execution.{ExecutesAll}
 use Rattle.aio_handle.specs.ContractViews.{ActorView, IsSameActor}
-use Rattle.page_check.specs.SynchronousAnswer.{Ending, reader_of}
+use Rattle.page_check.specs.SynchronousAnswer.{Ending, reading_of}
 use Rattle.page_check.specs.IsAnswer.{IsNext, Next as Said, Stop as SaidStop}
 use Rattle.aio_word.specs.declared.Known.{Known}
 use Rattle.read_stream.specs.declared.at_hand.AtHand.{AtHand}
@@ -54,16 +54,16 @@ module _ {W S P : Type 0} (left : S → List (ℕ × P)) (world : WorldGhosts W)
   -- the same answer of the same stream, behind so many pages
   pub next_answer_kept : (q : Known) (s n : ReadStream W S P) (given : ℕ) (x : Said P)
       → IsSameReading s n → returned_count left n ≡ given
-      → IsNext (reader_of n.scope.zero world.told) (MayBeUnread n.scope.was.value q)
+      → IsNext (reading_of n.scope.rules world.told) (MayBeUnread n.scope.was.value q)
       (stream_entries n.scope.relation (left n.source_was.value)) (returned_count left n) x
-      → IsNext (reader_of s.scope.zero world.told) (MayBeUnread s.scope.was.value q)
+      → IsNext (reading_of s.scope.rules world.told) (MayBeUnread s.scope.was.value q)
       (stream_entries s.scope.relation (left s.source_was.value)) given x
   next_answer_kept q s n given x k so_many is =
-      subst (λ (z : ℕ). IsNext (reader_of s.scope.zero world.told) (MayBeUnread s.scope.was.value q)
+      subst (λ (z : ℕ). IsNext (reading_of s.scope.rules world.told) (MayBeUnread s.scope.was.value q)
       (stream_entries s.scope.relation (left s.source_was.value)) z x) so_many
-      (subst (λ z. IsNext (reader_of s.scope.zero world.told) (MayBeUnread s.scope.was.value q)
+      (subst (λ z. IsNext (reading_of s.scope.rules world.told) (MayBeUnread s.scope.was.value q)
       (stream_entries s.scope.relation (left z.value)) (returned_count left n) x) k.source_was
-      (subst (λ (z : Scope W). IsNext (reader_of z.zero world.told) (MayBeUnread z.was.value q)
+      (subst (λ (z : Scope W). IsNext (reading_of z.rules world.told) (MayBeUnread z.was.value q)
       (stream_entries z.relation (left n.source_was.value)) (returned_count left n) x) k.scope is))
 
   -- the stream keeps what its actor knows
@@ -160,7 +160,7 @@ module _ {W S P : Type 0} (left : S → List (ℕ × P)) (world : WorldGhosts W)
         });
         right = b.right;
         stop_answer = some-wider (ending_at_hand s.at_hand) _ _
-            (λ e is. next_wider (reader_of s.scope.zero world.told) (MayBeUnread was p)
+            (λ e is. next_wider (reading_of s.scope.rules world.told) (MayBeUnread was p)
             (MayBeUnread was q) (entries_at_open left world s) (returned_count left s) (SaidStop e)
             (may_later was p q 0 0 0 0 w) is) b.stop_answer;
       }

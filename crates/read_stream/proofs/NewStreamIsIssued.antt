@@ -2,6 +2,7 @@
 use Rattle.std.proofs.Common.{◌≡◌, ℕ, ◌^◌, ◌<◌, ◌≤◌, List, [], length, refl, sym, ap}
 use Rattle.std.proofs.Common.{arith, append-nil, inl}
 use Rattle.std.specs.Prelude.{Option, Some, None, IfSome}
+use Rattle.page_check.specs.SynchronousAnswer.{Reading, Known as KnownReader, Unknown, IfKnown}
 use Rattle.page_check.specs.declared.world.World.{Ghosts as WorldGhosts}
 use Rattle.page_check.specs.SynchronousAnswer.{Reader}
 use Rattle.aio_word.specs.declared.WaitRef.{WaitRef}
@@ -60,6 +61,6 @@ module _ {W : Type 0} where
       }
 
 -- nothing was given, and so all of it can be read
-pub none-given : (found : Option Reader) (f : Reader → ℕ) → IfSome found (λ r. 0 ≤ f r)
-none-given None f = tt
-none-given (Some r) f = omega arith
+pub none-given : (found : Reading) (f : Reader → ℕ) → IfKnown found (λ r. 0 ≤ f r)
+none-given (Unknown checksums) f = tt
+none-given (KnownReader r) f = omega arith

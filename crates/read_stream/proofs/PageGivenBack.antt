@@ -130,7 +130,7 @@ module _ {W S P : Type 0} (left : S → List (ℕ × P)) (world : WorldGhosts W)
   ended = s.desk.now.reads.ended.items
 
   abbrev IsRight : AtHand W → Type 0
-  IsRight h = IsRightAtHand world.told s.scope.relation ended s.desk.now.blocks.queue.items h
+  IsRight h = IsRightAtHand world.told s.scope.rules.checksums s.scope.relation ended s.desk.now.blocks.queue.items h
 
   is-going : (h : AtHand W) → s.at_hand ≡ h → ending_at_hand h ≡ None
       → ending_at_hand s.at_hand ≡ None

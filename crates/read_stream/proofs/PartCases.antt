@@ -52,7 +52,7 @@ module _ (zero : Bool) (told : Option Told) (io : ReadIoView) (block : ℕ)
 
   pub part_invalid : IsStreamOutcome zero told io → block - io.first ≡ g → io.result.status ≡ Error
       → io.result.id ≡ 2
-      → (zero ≡ false) × IfSome told (λ t. found_at t io.relation block ≡ Damaged)
+      → (zero ≡ false) × IfSome told (λ t. found_at io.checksums t io.relation block ≡ Damaged)
   part_invalid (Whole is ended) at error two =
       absurd (not-good (sym (ap (λ (z : AioResult). z.status) is) ∙ error))
   part_invalid (Rest n is some few ended) at error two =
@@ -63,7 +63,7 @@ module _ (zero : Bool) (told : Option Told) (io : ReadIoView) (block : ℕ)
       let m : g ≡ i = ap (λ (z : AioResult). given_count z) is in
       let (a, b) = has in
       let at : io.first + i ≡ block = omega arith in
-      (off, subst (λ (z : ℕ). IfSome told (λ t. found_at t io.relation z ≡ Damaged)) at bad)
+      (off, subst (λ (z : ℕ). IfSome told (λ t. found_at io.checksums t io.relation z ≡ Damaged)) at bad)
   part_invalid (Unread is ended) at error two =
       let m : io.result.id ≡ 1 = ap (λ (z : AioResult). z.id) is in absurd (omega arith)
   part_invalid (PastEnd is ended past) at error two =
@@ -88,7 +88,7 @@ module _ (zero : Bool) (told : Option Told) (io : ReadIoView) (block : ℕ)
 
   pub part_past : IsStreamOutcome zero told io → block - io.first ≡ g → io.result.status ≡ Error
       → io.result.id ≢ 2 → io.result.error ≢ 1
-      → IfSome told (λ t. found_at t io.relation block ≡ Absent)
+      → IfSome told (λ t. found_at io.checksums t io.relation block ≡ Absent)
   part_past (Whole is ended) at error not_two not_one =
       absurd (not-good (sym (ap (λ (z : AioResult). z.status) is) ∙ error))
   part_past (Rest n is some few ended) at error not_two not_one =
@@ -103,4 +103,4 @@ module _ (zero : Bool) (told : Option Told) (io : ReadIoView) (block : ℕ)
       let m : g ≡ 0 = ap (λ (z : AioResult). given_count z) is in
       let (a, b) = has in
       let at : io.first ≡ block = omega arith in
-      subst (λ (z : ℕ). IfSome told (λ t. found_at t io.relation z ≡ Absent)) at past
+      subst (λ (z : ℕ). IfSome told (λ t. found_at io.checksums t io.relation z ≡ Absent)) at past

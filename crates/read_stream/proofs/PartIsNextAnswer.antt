@@ -4,7 +4,7 @@ use Rattle.std.proofs.Common.{subst, arith, ◌∙◌}
 use Rattle.std.specs.Prelude.{Some, IfSome, slice_get}
 use Rattle.page_check.specs.declared.world.World.{Ghosts as WorldGhosts}
 use Rattle.page_check.specs.PageBytes.{IsPage}
-use Rattle.page_check.specs.SynchronousAnswer.{Entry, reader_of, found_at, Damaged, Absent}
+use Rattle.page_check.specs.SynchronousAnswer.{Entry, reading_of, found_at, Damaged, Absent}
 use Rattle.page_check.specs.IsAnswer.{IsNext, Stop as SaidStop}
 use Rattle.aio_word.specs.declared.Class.{Class}
 use Rattle.aio_word.specs.declared.Class.TheVariants.{Failed}
@@ -54,7 +54,7 @@ failed_read c world p io taken b first failed = record {
 
 module _ {W P : Type 0} (c : Scope W) (world : WorldGhosts W) (list : List (ℕ × P))
     (k b : ℕ) (info : P) (rest : List (ℕ × P)) (here : drop k list ≡ (b, info) ∷ rest)
-    (far : ReadableUpTo c.zero world.told k (stream_entries c.relation list)) (p : Known)
+    (far : ReadableUpTo c.rules world.told k (stream_entries c.relation list)) (p : Known)
     (io : ReadIoView) (taken : IsTakenIn c world p io) (has : CoversBlock io b) where
   abbrev e : Entry P
   e = stream_entry c.relation (b, info)
@@ -62,44 +62,51 @@ module _ {W P : Type 0} (c : Scope W) (world : WorldGhosts W) (list : List (ℕ 
   at : slice_get (stream_entries c.relation list) k ≡ Some e
   at = mapped-at (stream_entry c.relation) list k (b, info) (here-at list k (b, info) rest here)
 
-  given-page : IsValidPart world.told io b part.Page → IsGivenAs world.told c.relation b
+  given-page : IsValidPart world.told io b part.Page → IsGivenAs world.told c.rules.checksums c.relation b
       (record_page io (b - io.first)) (record_zeroed io (b - io.first))
   given-page is =
       let given = (taken.fits.ended taken.has_ended).good (b - io.first) is.0 in
       let (low, below) = has in
       let same : io.first + (b - io.first) ≡ b = omega arith in
-      subst (λ (r : ℕ). IsGivenAs world.told r b (record_page io (b - io.first))
+      subst (λ (s : Bool). IsGivenAs world.told s c.relation b (record_page io (b - io.first))
+      (record_zeroed io (b - io.first))) taken.is_stream_record.checksums
+      (subst (λ (r : ℕ). IsGivenAs world.told io.checksums r b (record_page io (b - io.first))
       (record_zeroed io (b - io.first))) taken.is_stream_record.relation
-      (subst (λ (n : ℕ). IsGivenAs world.told io.relation n (record_page io (b - io.first))
-      (record_zeroed io (b - io.first))) same given)
+      (subst (λ (n : ℕ). IsGivenAs world.told io.checksums io.relation n
+      (record_page io (b - io.first)) (record_zeroed io (b - io.first))) same given))
 
   -- a page of the record
   pub page_is_next : IsValidPart world.told io b part.Page
-      → (IsPage (record_page io (b - io.first)) → IsNext (reader_of c.zero world.told)
+      → (IsPage (record_page io (b - io.first)) → IsNext (reading_of c.rules world.told)
       (MayBeUnread c.was.value p) (stream_entries c.relation list)
       k (page_answer c.relation b info (record_page io (b - io.first))
       (record_zeroed io (b - io.first))))
-      × ReadableUpTo c.zero world.told (k + 1) (stream_entries c.relation list)
-  page_is_next is = next-page c.zero (MayBeUnread c.was.value p) (stream_entries c.relation list) k
+      × ReadableUpTo c.rules world.told (k + 1) (stream_entries c.relation list)
+  page_is_next is = next-page c.rules (MayBeUnread c.was.value p) (stream_entries c.relation list) k
       e at world.told (record_page io (b - io.first)) (record_zeroed io (b - io.first)) far
-      (λ z. ids-apart c.zero true (sym taken.is_stream_record.ids ∙ is.1 z)) (given-page is)
+      (λ z. ids-apart c.rules.zero true (sym taken.is_stream_record.ids ∙ is.1 z)) (given-page is)
 
   maybe-unread : io.first ≡ b → io.label.ended ≡ Failed → MayBeUnread c.was.value p e
   maybe-unread first failed = (io, failed_read c world p io taken b first failed)
 
   -- what stops the stream at the block
   pub stop_is_next : (why : Stop) → IsValidPart world.told io b (part.Stop why)
-      → IsNext (reader_of c.zero world.told) (MayBeUnread c.was.value p)
+      → IsNext (reading_of c.rules world.told) (MayBeUnread c.was.value p)
       (stream_entries c.relation list) k (SaidStop (stop_ending why b))
   stop_is_next stop.Invalid is =
-      next-invalid c.zero (MayBeUnread c.was.value p) (stream_entries c.relation list) k e at
-      world.told far (ids-apart c.zero false (sym taken.is_stream_record.ids ∙ is.0))
-      (subst (λ (r : ℕ). IfSome world.told (λ t. found_at t r b ≡ Damaged))
-      taken.is_stream_record.relation is.1)
+      next-invalid c.rules (MayBeUnread c.was.value p) (stream_entries c.relation list) k e at
+      world.told far (ids-apart c.rules.zero false (sym taken.is_stream_record.ids ∙ is.0))
+      (subst (λ (s : Bool). IfSome world.told (λ t. found_at s t c.relation b ≡ Damaged))
+      taken.is_stream_record.checksums
+      (subst (λ (r : ℕ). IfSome world.told (λ t. found_at io.checksums t r b ≡ Damaged))
+      taken.is_stream_record.relation is.1))
   stop_is_next stop.Unread is =
-      next-unread c.zero (MayBeUnread c.was.value p) (stream_entries c.relation list) k e at
+      next-unread c.rules (MayBeUnread c.was.value p) (stream_entries c.relation list) k e at
       world.told (maybe-unread is.0 is.1)
   stop_is_next stop.PastEnd is =
-      next-past-end c.zero (MayBeUnread c.was.value p) (stream_entries c.relation list) k e at
-      world.told far (subst (λ (r : ℕ). IfSome world.told (λ t. found_at t r b ≡ Absent))
-      taken.is_stream_record.relation is)
+      next-past-end c.rules (MayBeUnread c.was.value p) (stream_entries c.relation list) k e at
+      world.told far
+      (subst (λ (s : Bool). IfSome world.told (λ t. found_at s t c.relation b ≡ Absent))
+      taken.is_stream_record.checksums
+      (subst (λ (r : ℕ). IfSome world.told (λ t. found_at io.checksums t r b ≡ Absent))
+      taken.is_stream_record.relation is))

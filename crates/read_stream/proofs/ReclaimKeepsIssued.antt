@@ -249,6 +249,7 @@ module _ (p m q : Known) (t : WaitRef) (l : Label) (a b d e : ℕ) (class : Clas
             has_ended = λ u. o.ended (sym ended ∙ u);
             is_stream_record = record {
               ids = ap (λ (v : ReadIoView). v.ids) is ∙ (same.ids ∙ is-aimed.ids);
+              checksums = ap (λ (v : ReadIoView). v.checksums) is ∙ (same.checksums ∙ is-aimed.checksums);
               relation = ap (λ (v : ReadIoView). v.relation) is
                   ∙ (same.relation ∙ is-aimed.relation);
               room = ap (λ (v : ReadIoView). length v.pages) is ∙ (same.room ∙ is-aimed.room);

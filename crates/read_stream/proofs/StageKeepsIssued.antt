@@ -251,12 +251,13 @@ module _ {W : Type 0} (c : Scope W) (world : WorldGhosts W) where
 
 -- a record that was aimed, and then bound
 pub aimed-as : {W : Type 0} (c : Scope W) (io x y : ReadIoView) (first count : ℕ)
-    → x ≡ with_aim c.relation first count (stream_ids c.zero) io → length io.pages ≡ c.combine
+    → x ≡ with_aim c.relation first count c.rules.checksums (stream_ids c.rules.zero) io → length io.pages ≡ c.combine
     → record_aim y ≡ record_aim x → IsStreamRecord c y × (y.first ≡ first) × (y.count ≡ count)
 aimed-as c io x y first count is room same =
     let r : ReadsAs y x = reads-as y x same in (
       record {
         ids = r.ids ∙ ap (λ (z : ReadIoView). z.ids) is;
+        checksums = r.checksums ∙ ap (λ (z : ReadIoView). z.checksums) is;
         relation = r.relation ∙ ap (λ (z : ReadIoView). z.relation) is;
         room = r.room ∙ (ap (λ (z : ReadIoView). length z.pages) is ∙ room);
       },

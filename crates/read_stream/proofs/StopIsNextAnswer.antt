@@ -4,7 +4,7 @@ use Rattle.std.proofs.Common.{inl, refl}
 use Rattle.std.specs.Prelude.{Some, slice_get}
 use Rattle.std.proofs.lemmas.List.{length-map}
 use Rattle.page_check.specs.declared.world.World.{Ghosts as WorldGhosts}
-use Rattle.page_check.specs.SynchronousAnswer.{reader_of, End}
+use Rattle.page_check.specs.SynchronousAnswer.{reading_of, End}
 use Rattle.page_check.specs.IsAnswer.{IsNext, Next as Said, Stop as SaidStop}
 use Rattle.aio_word.specs.declared.Known.{Known}
 use Rattle.aio_word.specs.Stands.{IsIn}
@@ -36,7 +36,7 @@ module _ {W S P : Type 0} (left : S → List (ℕ × P)) (world : WorldGhosts W)
 
   -- this may be answered behind the pages that were given back
   abbrev pub MayAnswer : Known → ReadStream W S P → Said P → Type 0
-  MayAnswer p s x = IsNext (reader_of s.scope.zero world.told) (MayBeUnread s.scope.was.value p)
+  MayAnswer p s x = IsNext (reading_of s.scope.rules world.told) (MayBeUnread s.scope.was.value p)
       (entries_at_open left world s) (returned_count left s) x
 
   -- the blocks of the list that are left, of which this one stands in front
@@ -79,5 +79,5 @@ module _ {W S P : Type 0} (left : S → List (ℕ × P)) (world : WorldGhosts W)
       ∙ (ap (λ (z : List (QueuedBlock P)). map source_item z ++ left s.source) none ∙ empty)) in
       let n = length-map (list_at_open left world s) (stream_entry s.scope.relation) in
       let few = at.given_within in
-      next-end s.scope.zero (MayBeUnread s.scope.was.value p) (entries_at_open left world s)
+      next-end s.scope.rules (MayBeUnread s.scope.was.value p) (entries_at_open left world s)
       (returned_count left s) world.told at.readable (omega arith)

@@ -155,7 +155,7 @@ module _ {W S P : Type 0} (left : S → List (ℕ × P)) (world : WorldGhosts W)
             relation_in_range = u.invariant.set_up.relation_in_range;
             settings = u.invariant.set_up.settings;
             scope = u.invariant.set_up.scope;
-            zero = u.invariant.set_up.zero;
+            rules = u.invariant.set_up.rules;
             queue = rw t.queue u.invariant.set_up.queue;
             list_within_most = u.invariant.set_up.list_within_most;
           };

@@ -2,6 +2,7 @@
 use Rattle.std.proofs.Common.{◌≡◌, ℕ, ◌+◌, ◌≤◌, List, ◌++◌, cond, ap, arith}
 use Rattle.std.proofs.lemmas.List.Sums.{sum_by-append}
 use Rattle.std.specs.Prelude.{Option}
+use Rattle.page_check.specs.SynchronousAnswer.{Reading}
 use Rattle.page_check.specs.Told.{Told}
 use Rattle.page_check.specs.SynchronousAnswer.{Entry, Reader, Ending, End, Invalid, PastEnd, Unread}
 use Rattle.page_check.specs.IsAnswer.{IsEnding, IsNext, Next, Page, Stop}
@@ -64,7 +65,7 @@ module _ {P : Type 0} where
   may_counted was q e (io, f) =
       failed_one was.known q _ f.local_mark.0 f.local_mark.1 f.local_mark.2
 
-  pub ending_wider : (found : Option Reader) (may may' : Entry P → Type 0)
+  pub ending_wider : (found : Reading) (may may' : Entry P → Type 0)
       (entries : List (Entry P)) (k : ℕ) (end : Ending) → ((e : Entry P) → may e → may' e)
       → IsEnding found may entries k end → IsEnding found may' entries k end
   ending_wider found may may' entries k (Unread b) wider is =
@@ -73,7 +74,7 @@ module _ {P : Type 0} where
   ending_wider found may may' entries k (Invalid b) wider is = is
   ending_wider found may may' entries k (PastEnd b) wider is = is
 
-  pub next_wider : (found : Option Reader) (may may' : Entry P → Type 0)
+  pub next_wider : (found : Reading) (may may' : Entry P → Type 0)
       (entries : List (Entry P)) (k : ℕ) (x : Next P) → ((e : Entry P) → may e → may' e)
       → IsNext found may entries k x → IsNext found may' entries k x
   next_wider found may may' entries k (Page given) wider is = is

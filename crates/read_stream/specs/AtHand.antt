@@ -1,4 +1,5 @@
 -- What a stream has at hand, and what it answers of it.
+use Rattle.std.specs.Prelude.{Bool}
 use Rattle.std.specs.Prelude.{◌≡◌, ℕ, ◌-◌, List, [], ◌∷◌, false, Option, Some, None, slice_get, ⊤}
 use Rattle.page_check.specs.Told.{Told}
 use Rattle.page_check.specs.SynchronousAnswer.{Ending, End, Invalid, PastEnd, Unread}
@@ -74,16 +75,16 @@ module _ {W : Type 0} where
 
 module _ {W P : Type 0} where
   -- it is right for the block at the front
-  abbrev pub IsRightAtHand : Option Told → ℕ → List EndedRead → List (QueuedBlock P) → AtHand W
+  abbrev pub IsRightAtHand : Option Told → Bool → ℕ → List EndedRead → List (QueuedBlock P) → AtHand W
       → Type 0
-  IsRightAtHand told relation ended queue at_hand.Nothing = ⊤
-  IsRightAtHand told relation ended queue (at_hand.Pinned pin) = (block : ℕ)
-      × HasInFront queue block [] × IsGood told relation block (pinned_page pin)
-  IsRightAtHand told relation ended queue at_hand.Lent = (block : ℕ)
+  IsRightAtHand told checksums relation ended queue at_hand.Nothing = ⊤
+  IsRightAtHand told checksums relation ended queue (at_hand.Pinned pin) = (block : ℕ)
+      × HasInFront queue block [] × IsGood told checksums relation block (pinned_page pin)
+  IsRightAtHand told checksums relation ended queue at_hand.Lent = (block : ℕ)
       × IsNextOfOldest told ended queue block part.Page
-  IsRightAtHand told relation ended queue (at_hand.Stopped block why) =
+  IsRightAtHand told checksums relation ended queue (at_hand.Stopped block why) =
       IsNextOfOldest told ended queue block (part.Stop why)
-  IsRightAtHand told relation ended queue at_hand.Ended = ⊤
+  IsRightAtHand told checksums relation ended queue at_hand.Ended = ⊤
 
   -- the answer, in the words of synchronous reads: a page is that of the block at the front
   abbrev pub answer_with : ℕ → AtHand W → Option (QueuedBlock P) → Option EndedRead → Said P

@@ -22,10 +22,10 @@ abbrev pub IsValidPart : Option Told → ReadIoView → ℕ → Part → Type 0
 IsValidPart told io block part.Page = (block - io.first < good_count io.ids io.result)
     × (record_zeroed io (block - io.first) ≡ true → io.ids ≡ stream_ids true)
 IsValidPart told io block (part.Stop stop.Invalid) = (io.ids ≡ stream_ids false)
-    × IfSome told (λ t. found_at t io.relation block ≡ Damaged)
+    × IfSome told (λ t. found_at io.checksums t io.relation block ≡ Damaged)
 IsValidPart told io block (part.Stop stop.Unread) = (io.first ≡ block) × (io.label.ended ≡ Failed)
 IsValidPart told io block (part.Stop stop.PastEnd) =
-    IfSome told (λ t. found_at t io.relation block ≡ Absent)
+    IfSome told (λ t. found_at io.checksums t io.relation block ≡ Absent)
 
 -- it is what the oldest read has for its next block
 abbrev pub IsPartOfOldest : {W : Type 0} → Option Told → Reads W → Part → Type 0

@@ -2,9 +2,10 @@
 use Rattle.std.specs.Prelude.{◌≡◌, ℕ, ◌+◌, ◌-◌, ◌<◌, ◌≤◌, ◌++◌, List, [], ◌∷◌, length, map, drop}
 use Rattle.std.specs.Prelude.{true, Bool, Option, None, IfSome, slice_get}
 use Rattle.std.specs.List.{flat_map}
+use Rattle.page_check.specs.SynchronousAnswer.{IfKnown}
 use Rattle.page_check.specs.declared.world.World.{Ghosts as WorldGhosts}
 use Rattle.page_check.specs.Told.{Told}
-use Rattle.page_check.specs.SynchronousAnswer.{Entry, read_count, reader_of}
+use Rattle.page_check.specs.SynchronousAnswer.{Entry, read_count, reading_of}
 use Rattle.page_check.specs.IsAnswer.{Next as Said, Stop as SaidStop, IsNext}
 use Rattle.aio_word.specs.declared.Known.{Known}
 use Rattle.aio_word.specs.Stands.{IsIn}
@@ -34,7 +35,7 @@ pub record IsSetUp {W : Type 0} (relations : ℕ) (c : Scope W) (blocks : ℕ) (
   pub relation_in_range : c.relation < relations
   pub settings : AreValidSettings desk
   pub scope : (c.combine ≡ desk.combine) × (c.total.value ≡ desk.ios + 1)
-  pub zero : c.zero ≡ desk.zero
+  pub rules : c.rules ≡ desk.rules
   pub queue : desk.limit ≤ queue_room
   pub list_within_most : blocks ≤ c.most.value
 
@@ -50,7 +51,7 @@ pub record HasRecords {W : Type 0} (world : WorldGhosts W) (c : Scope W) (p : Kn
 pub record IsPosition {W P : Type 0} (told : Option Told) (c : Scope W) (list left : List (ℕ × P))
     (over : Bool) (given : ℕ) (queue : List (QueuedBlock P)) : Type 0 where
   pub given_within : given ≤ length list
-  pub readable : IfSome (reader_of c.zero told)
+  pub readable : IfKnown (reading_of c.rules told)
       (λ f. given ≤ read_count f (stream_entries c.relation list))
   pub blocks : map source_item queue ++ left ≡ drop given list
   pub none_left_if_over : over ≡ true → left ≡ []
@@ -133,9 +134,9 @@ module _ {W S P : Type 0} (left : S → List (ℕ × P)) (world : WorldGhosts W)
     pub few_ios : ios_started s.desk.now.reads ≤ length (list_at_open s)
     pub running : ending_at_hand s.at_hand ≡ None
         → IsRunning None (spare_at_hand s.at_hand s.desk.now.reads.ended.items) p s
-    pub right : IsRightAtHand world.told s.scope.relation s.desk.now.reads.ended.items
+    pub right : IsRightAtHand world.told s.scope.rules.checksums s.scope.relation s.desk.now.reads.ended.items
         s.desk.now.blocks.queue.items s.at_hand
-    pub stop_answer : IfSome (ending_at_hand s.at_hand) (λ e. IsNext (reader_of s.scope.zero
+    pub stop_answer : IfSome (ending_at_hand s.at_hand) (λ e. IsNext (reading_of s.scope.rules
         world.told) (MayBeUnread s.scope.was.value p) (entries_at_open s) (returned_count left s)
         (SaidStop e))
 

@@ -1,7 +1,7 @@
 -- A stream as its callers see it, and what a call of it answers and changes.
 use Rattle.std.specs.Prelude.{◌≡◌, ℕ, ◌+◌, ◌<◌, List, [], true, Option, Some, None, length}
 use Rattle.page_check.specs.Told.{Told}
-use Rattle.page_check.specs.SynchronousAnswer.{Ending, reader_of}
+use Rattle.page_check.specs.SynchronousAnswer.{Ending, reading_of}
 use Rattle.page_check.specs.Verdict.{IsValid}
 use Rattle.page_check.specs.IsAnswer.{IfPage, IsNext, Next as Said, Page as SaidPage}
 use Rattle.page_check.specs.IsAnswer.{Stop as SaidStop}
@@ -79,15 +79,15 @@ pub record HasNoFailedRead (was now : ActorView) : Type 0 where
 -- a read of the stream has failed
 pub record IsStreamAnswer {P : Type 0} (told : Option Told) (s : StreamView P) (now : ActorView)
     (answer : Said P) : Type 0 where
-  pub next : IsNext (reader_of s.settings.zero told) (MayBeUnread s.actor_was now.known)
+  pub next : IsNext (reading_of s.settings.rules told) (MayBeUnread s.actor_was now.known)
       (stream_entries s.relation s.blocks) s.given answer
   pub valid : IfPage answer IsValid
-  pub zeroed : IfZeroed answer (s.settings.zero ≡ true)
+  pub zeroed : IfZeroed answer (s.settings.rules.zero ≡ true)
   pub within : IfPage answer (λ _. s.given < length s.blocks)
 
 -- it is what synchronous reads answer there
 abbrev pub IsSynchronousAnswer : {P : Type 0} → Option Told → StreamView P → Said P → Type 0
-IsSynchronousAnswer told s answer = IsNext (reader_of s.settings.zero told) (λ _. ⊥)
+IsSynchronousAnswer told s answer = IsNext (reading_of s.settings.rules told) (λ _. ⊥)
     (stream_entries s.relation s.blocks) s.given answer
 
 -- a call with this actor, executor and method: the actor ends what it takes up, and the executor's

@@ -1,6 +1,6 @@
 //! How a stream advances by one answer.
 ghost use Rattle.std.specs.Prelude.{◌≡◌, ◌+◌, ◌-◌, ◌<◌, ◌^◌, None, IfSome};
-ghost use Rattle.page_check.specs.SynchronousAnswer.{reader_of};
+ghost use Rattle.page_check.specs.SynchronousAnswer.{reading_of};
 ghost use Rattle.page_check.specs.PageBytes.{IsPage};
 ghost use Rattle.page_check.specs.IsAnswer.{IsNext, IfPage};
 ghost use Rattle.read_stream.specs.IoContexts.{IsValidContext, ContextAdvanced};
@@ -35,7 +35,7 @@ impl<'d, 'p, W: World, S: BlockSource<P> + Drop, P: Copy> ReadStream<'d, 'p, W, 
         requires is_open { IsOpen S.left W.World self.old }
         ensures context_advanced { ContextAdvanced E.Execute M.Method context.old context.new }
         ensures answer { IfPage (answer_at_hand self.new) IsPage
-            → IsNext (reader_of self.old.scope.zero W.told)
+            → IsNext (reading_of self.old.scope.rules W.told)
             (MayBeUnread self.old.scope.was.value context.new.actor.now.known)
             (stream_entries self.old.scope.relation (S.left self.old.source_was.value))
             (stream_view S.left self.old).given (answer_at_hand self.new) }

@@ -61,11 +61,7 @@ impl<P: Copy> Blocks<P> {
         requires room { length self.old.queue.items < self.old.queue.capacity }
         ensures taken { BlockTaken W.handles block per_buffer_data self.old self.new result }
     {
-        let tag = Tag {
-            relation: scope.relation,
-            block,
-        };
-        let want = want_of(rt, pool, tag);
+        let want = want_of(rt, pool, scope.tag(block));
         let run = self.plan_block(want, block, scope.combine);
         self.enqueue(QueuedBlock {
             block,

@@ -13,7 +13,7 @@ use aio_batch::Method;
 use aio_callback::ReadIo;
 use aio_handle::Execute;
 use circular_buffer::HeapCircularBuffer;
-use page_check::World;
+use page_check::{PageRules, World};
 use read_plan::Plan;
 use std::alloc::{AllocError, Global};
 use std::sync::Wait;
@@ -33,8 +33,8 @@ pub struct Settings {
     pub batch: bool,
     /// The segment size in blocks (`RELSEG_SIZE`), at least 1: no read crosses a multiple of it.
     pub segment: u32,
-    /// Whether damaged pages are given as zeros (`zero_damaged_pages`).
-    pub zero: bool,
+    /// Whether checksums are verified, and damaged pages given as zeros.
+    pub rules: PageRules,
 }
 
 /// The memory of one stream after the other: the half that asks, and the half that reads.

@@ -23,7 +23,7 @@ use aio_handle::Execute;
 use aio_waitref::wait;
 use aio_word::WaitRef;
 use block_source::BlockSource;
-use buf_pool::{Found, Tag};
+use buf_pool::Found;
 use page_check::World;
 use read_plan::Run;
 use std::sync::Wait;
@@ -190,7 +190,7 @@ impl<'d, 'p, W: World, S: BlockSource<P> + Drop, P: Copy> ReadStream<'d, 'p, W, 
         ensures same_stream { SameStream S.left self.old self.new }
         ensures has_answer { HasAnswer result }
     {
-        match self.pool.lookup(rt, self.tag(block)) {
+        match self.pool.lookup(rt, self.scope.tag(block)) {
             Found::Hit(pin) => AtHand::Pinned(pin),
             Found::Busy(reference) => self.join(rt, context, block, reference),
             Found::Absent => self.read_block(rt, context, block),
@@ -217,7 +217,7 @@ impl<'d, 'p, W: World, S: BlockSource<P> + Drop, P: Copy> ReadStream<'d, 'p, W, 
     {
         self.submit(rt, context);
         self.wait_for(rt, context, reference);
-        match self.pool.lookup(rt, self.tag(block)) {
+        match self.pool.lookup(rt, self.scope.tag(block)) {
             Found::Hit(pin) => AtHand::Pinned(pin),
             Found::Busy(_) | Found::Absent => self.read_block(rt, context, block),
         }
@@ -242,15 +242,6 @@ impl<'d, 'p, W: World, S: BlockSource<P> + Drop, P: Copy> ReadStream<'d, 'p, W, 
     {
         wait(rt, context.table, context.actor, reference, context.runner);
         self.desk.blocks.plan.waited();
-    }
-
-    fn tag(&self, block: u32) -> Tag
-        ensures { result ≡ record { relation = self.now.scope.relation; block = block } }
-    {
-        Tag {
-            relation: self.scope.relation,
-            block,
-        }
     }
 
     // Reads the block alone by a free record.

@@ -25,9 +25,9 @@ use aio_batch::Method;
 use aio_callback::{CallbackId, ReadIo};
 use aio_handle::{Execute, Staged};
 use aio_word::WaitRef;
-use buf_pool::{Pool, Tag};
+use buf_pool::Pool;
 use method_sync::SyncMethod;
-use page_check::World;
+use page_check::{PageRules, World};
 use read_plan::Run;
 use std::sync::Wait;
 
@@ -58,7 +58,7 @@ fn callbacks(zero: bool) -> [CallbackId; 3]
 fn begin_blocks<W: World, T: Wait>(
     rt: &T,
     pool: &Pool<W>,
-    relation: u32,
+    scope: &Scope<W>,
     run: Run,
     reference: WaitRef,
 )
@@ -66,22 +66,20 @@ fn begin_blocks<W: World, T: Wait>(
     requires blocks_in_range { run.first + run.count ≤ 2 ^ 32 }
 {
     for index in 0..run.count {
-        let tag = Tag {
-            relation,
-            block: run.first + index,
-        };
-        let _ = pool.begin(rt, tag, reference);
+        let _ = pool.begin(rt, scope.tag(run.first + index), reference);
     }
 }
 
 /// Aims the record at the run.
-fn aim_record(mut io: ReadIo, relation: u32, run: Run, zero: bool) -> ReadIo
+fn aim_record(mut io: ReadIo, relation: u32, run: Run, rules: PageRules) -> ReadIo
     requires some { 1 ≤ run.count }
     requires room { run.count ≤ length io.pages }
     requires blocks_in_range { run.first + run.count ≤ 2 ^ 32 }
-    ensures { result ≡ with_aim relation run.first run.count (stream_ids zero) io }
+    ensures { result ≡ with_aim relation run.first run.count rules.checksums
+        (stream_ids rules.zero) io }
 {
-    match io.aim(relation, run.first, run.count, &callbacks(zero)) {
+    let ids = callbacks(rules.zero);
+    match io.aim(relation, run.first, run.count, rules.checksums, &ids) {
         Ok(()) => io,
         Err(_) => unreachable!(),
     }
@@ -172,9 +170,9 @@ impl<W: World> Reads<W> {
         ensures batch { length self.new.batch ≤ length self.old.batch }
     {
         let token = self.acquire(rt, scope, context);
-        let io = aim_record(io, scope.relation, run, scope.zero);
+        let io = aim_record(io, scope.relation, run, scope.rules);
         let token = context.table.define(context.actor, token, io);
-        begin_blocks(rt, pool, scope.relation, run, token.reference());
+        begin_blocks(rt, pool, scope, run, token.reference());
         context.table.stage(context.actor, token)
     }
 

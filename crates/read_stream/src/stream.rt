@@ -76,7 +76,7 @@ impl<'d, 'p, W: World, S: BlockSource<P> + Drop, P: Copy> ReadStream<'d, 'p, W, 
             relation,
             combine: settings.combine,
             batched: settings.batch,
-            zero: settings.zero,
+            rules: settings.rules,
             total,
             most,
             was: Snapshot::of(actor),
@@ -157,7 +157,7 @@ impl<'d, 'p, W: World, S: BlockSource<P> + Drop, P: Copy> ReadStream<'d, 'p, W, 
             ≡ answer_at_hand self.now }
         ensures page { IfPage (synchronous_answer self.now.scope.relation result) IsPage }
         ensures zeroed { IfZeroed (synchronous_answer self.now.scope.relation result)
-            (self.now.scope.zero ≡ true) }
+            (self.now.scope.rules.zero ≡ true) }
     {
         match &self.at_hand {
             AtHand::Pinned(pin) => {

@@ -7,10 +7,11 @@ use Rattle.std.specs.List.{All, AllZip}
 use Rattle.std.proofs.lemmas.List.Elements.{All-head, All-tail}
 use Rattle.std.proofs.lemmas.List.Elements.{All-cons}
 use Rattle.std.proofs.lemmas.List.Sums.{sum_by-cons}
-use Rattle.page_check.specs.SynchronousAnswer.{reader_of}
+use Rattle.page_check.specs.SynchronousAnswer.{reading_of}
 use Rattle.page_check.specs.IsAnswer.{IsAnswer}
 use Rattle.heap_scan.specs.Job.{endings_of}
 use Rattle.heap_tuple.specs.Listing.{text_with}
+use Rattle.page_check.specs.declared.rules.PageRules.{PageRules}
 use Rattle.page_check.specs.declared.world.World.{Ghosts as WorldGhosts}
 use Rattle.aio_disk.specs.declared.disk.Disk.{Ghosts as DiskGhosts}
 use Rattle.aio_handle.specs.ContractViews.{TableView}
@@ -69,16 +70,16 @@ entries_count block_filter (j ∷ js) =
 
 module _ {W D : Type 0} (m : DiskGhosts D) (world : WorldGhosts W) (t : TableView) where
   -- a stream that ended in Unread has left the result of a failed I/O
-  failed_more : (h k : DiskActor W D) (b : Blocks) (pages : List G) (on : Bool) (end : Ending)
+  failed_more : (h k : DiskActor W D) (b : Blocks) (pages : List G) (rules : PageRules) (end : Ending)
       (u : Bool) → is_unread end ≡ u → DiskActorAdvanced m world t h k
-      → IsAnswer (reader_of on world.told) (MayBeUnread h.actor k.actor.known)
+      → IsAnswer (reading_of rules world.told) (MayBeUnread h.actor k.actor.known)
       (entries_of_blocks b) (record { pages = pages; endings = endings_of (answered_ending end) })
       → failed_result_count h.actor.known.marks + cond u 1 0
       ≤ failed_result_count k.actor.known.marks
-  failed_more h k b pages on end true is went answers =
-      unread_after (reader_of on world.told) h.actor k.actor.known (entries_of_blocks b) pages end
+  failed_more h k b pages rules end true is went answers =
+      unread_after (reading_of rules world.told) h.actor k.actor.known (entries_of_blocks b) pages end
       answers is
-  failed_more h k b pages on end false is went answers =
+  failed_more h k b pages rules end false is went answers =
       let more = results_more h.actor.known.marks went.more in
       let same = ap failed_result_count went.marks in omega arith
 
@@ -91,7 +92,7 @@ module _ {W D : Type 0} (m : DiskGhosts D) (world : WorldGhosts W) (t : TableVie
       (ended_jobs ls taken end)
   by_text tuples h k d e b js ls taken end stream fresh same read =
       let f = filter_of_skipping b.by_map in
-      let how = list_options d.settings.zero tuples in
+      let how = list_options d.settings.rules tuples in
       let may : E → Type 0 = MayBeUnread h.actor k.actor.known in
       let given = read.given in
       let unended = new_jobs_not_ended world.relations js fresh in
@@ -106,14 +107,14 @@ module _ {W D : Type 0} (m : DiskGhosts D) (world : WorldGhosts W) (t : TableVie
           entries_count f js,
         );
         unread = (let few = one_unread_at_most ls taken end (alike_not_ended js ls same unended) in
-            let more = failed_more h k b given.pages d.settings.zero end (is_unread end) refl
+            let more = failed_more h k b given.pages d.settings.rules end (is_unread end) refl
             read.advanced given.answers in omega arith);
         desk = read.desk;
         listed = subst (λ (n : ℕ). AllZip (JobIsListed f how world.told may) js
             (ended_jobs ls n end)) (sym given.held.0)
             (all_listed f how world.told may js ls given.pages end same unended stream.whole
             given.held.1 given.none_zeroed
-            (subst (λ (es : List E). IsAnswer (reader_of d.settings.zero world.told) may es
+            (subst (λ (es : List E). IsAnswer (reading_of d.settings.rules world.told) may es
             (record { pages = given.pages; endings = endings_of (answered_ending end) }))
             stream.entries given.answers));
       }

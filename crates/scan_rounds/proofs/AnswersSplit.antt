@@ -2,7 +2,7 @@
 use Rattle.std.proofs.Common.{◌≡◌, ◌≢◌, ◌⊎◌, ℕ, ◌+◌, ◌<◌, ◌≤◌, List, [], ◌∷◌, ◌++◌}
 use Rattle.std.proofs.Common.{length, map, take, drop, sym, ap, subst, ◌∙◌, inl, inr, arith}
 use Rattle.std.proofs.Common.{append-nil, length-append, length-drop}
-use Rattle.std.specs.Prelude.{Option, Some, None}
+use Rattle.std.specs.Prelude.{Bool}
 use Rattle.std.proofs.lemmas.List.{length-map, length-take-le}
 use Rattle.std.proofs.lemmas.List.{take-map, drop-map}
 use Rattle.std.proofs.lemmas.List.Elements.{All-take, All-drop}
@@ -10,6 +10,7 @@ use Rattle.std.proofs.lemmas.Option.{slice_get_past}
 use mathlib.Core.Logic.{dite}
 use native.Mathlib.Decide.{dec_le}
 use Rattle.page_check.specs.SynchronousAnswer.{Entry, Given, Ending, End, Invalid, PastEnd, Unread}
+use Rattle.page_check.specs.SynchronousAnswer.{Reading, Known, Unknown}
 use Rattle.page_check.specs.SynchronousAnswer.{Reader, read_count, readable_pages, stop_ending}
 use Rattle.page_check.specs.SynchronousAnswer.{list_ending}
 use Rattle.page_check.specs.IsAnswer.{IsGiven, AreFirst, StopsAt, EndsAt, IsEnding}
@@ -40,7 +41,7 @@ module _ {P : Type 0} where
 
   -- a list is read whole where a longer one has as many pages
   whole_before : (f : Reader) (xs ys : List (Entry P)) (pages : List (Given P))
-      → AreFirst (Some f) (xs ++ ys) pages → length xs ≤ length pages → list_ending f xs ≡ End
+      → AreFirst (Known f) (xs ++ ys) pages → length xs ≤ length pages → list_ending f xs ≡ End
   whole_before f xs ys pages first far =
       let many = begins_within pages (readable_pages f (xs ++ ys)) first in
       let count = readable_pages-length f xs in
@@ -50,34 +51,34 @@ module _ {P : Type 0} where
       ]
 
   -- the pages of the first list
-  first_front : (found : Option Reader) (xs ys : List (Entry P)) (pages : List (Given P))
+  first_front : (found : Reading) (xs ys : List (Entry P)) (pages : List (Given P))
       → length xs ≤ length pages → AreFirst found (xs ++ ys) pages
       → AreFirst found xs (take (length xs) pages)
-  first_front None xs ys pages far first =
+  first_front (Unknown checksums) xs ys pages far first =
       let n = length xs in
       let es : List (Entry P) = map (λ (g : Given P). g.entry) pages in
       let same = front_taken xs ys es first.1.0 first.1.1
       (omega (arith, length-map pages (λ (g : Given P). g.entry))) in (
-        All-take IsGiven n pages first.0,
+        All-take (IsGiven checksums) n pages first.0,
         ([], same ∙ take-map (λ (g : Given P). g.entry) n pages ∙ sym (append-nil _)),
       )
-  first_front (Some f) xs ys pages far first =
+  first_front (Known f) xs ys pages far first =
       let is = whole f xs ys (whole_before f xs ys pages first far) in
       let same = front_taken (readable_pages f xs) (readable_pages f ys) pages first.0
       (sym is.pages ∙ first.1) (omega (arith, is.all)) in
       ([], same ∙ ap (λ (n : ℕ). take n pages) is.all ∙ sym (append-nil _))
 
   -- and its end
-  end_front : (found : Option Reader) (xs ys : List (Entry P)) (pages : List (Given P))
+  end_front : (found : Reading) (xs ys : List (Entry P)) (pages : List (Given P))
       → length xs ≤ length pages → AreFirst found (xs ++ ys) pages
       → EndsAt found xs (length (take (length xs) pages)) End
-  end_front None xs ys pages far first = length-take-le (length xs) pages far
-  end_front (Some f) xs ys pages far first =
+  end_front (Unknown checksums) xs ys pages far first = length-take-le (length xs) pages far
+  end_front (Known f) xs ys pages far first =
       let end = whole_before f xs ys pages first far in
       (length-take-le (length xs) pages far ∙ sym (whole f xs ys end).all, end)
 
   -- the first of two lists was answered whole, to its end
-  pub answered_front : (found : Option Reader) (may : Entry P → Type 0) (xs ys : List (Entry P))
+  pub answered_front : (found : Reading) (may : Entry P → Type 0) (xs ys : List (Entry P))
       (pages : List (Given P)) (endings : List Ending) → length xs ≤ length pages
       → IsAnswer found may (xs ++ ys) (record { pages = pages; endings = endings })
       → IsAnswer found may xs (record { pages = take (length xs) pages; endings = End ∷ [] })
@@ -87,22 +88,22 @@ module _ {P : Type 0} where
   }
 
   -- the pages of the second list
-  first_back : (found : Option Reader) (xs ys : List (Entry P)) (pages : List (Given P))
+  first_back : (found : Reading) (xs ys : List (Entry P)) (pages : List (Given P))
       → length xs ≤ length pages → AreFirst found (xs ++ ys) pages
       → AreFirst found ys (drop (length xs) pages)
-  first_back None xs ys pages far first =
+  first_back (Unknown checksums) xs ys pages far first =
       let n = length xs in
       let es : List (Entry P) = map (λ (g : Given P). g.entry) pages in
       let same = back_dropped xs ys es first.1.0 first.1.1
       (omega (arith, length-map pages (λ (g : Given P). g.entry))) in (
-        All-drop IsGiven n pages first.0,
+        All-drop (IsGiven checksums) n pages first.0,
         (
           first.1.0,
           same ∙ ap (λ (l : List (Entry P)). l ++ first.1.0)
               (drop-map (λ (g : Given P). g.entry) n pages),
         ),
       )
-  first_back (Some f) xs ys pages far first =
+  first_back (Known f) xs ys pages far first =
       let is = whole f xs ys (whole_before f xs ys pages first far) in
       let same = back_dropped (readable_pages f xs) (readable_pages f ys) pages first.0
       (sym is.pages ∙ first.1) (omega (arith, is.all)) in
@@ -120,8 +121,8 @@ module _ {P : Type 0} where
 
   -- how the second list ends, where the contents are told
   ends_back_told : (f : Reader) (xs ys : List (Entry P)) (k : ℕ) (end : Ending)
-      → list_ending f xs ≡ End → EndsAt (Some f) (xs ++ ys) (length xs + k) end
-      → EndsAt (Some f) ys k end
+      → list_ending f xs ≡ End → EndsAt (Known f) (xs ++ ys) (length xs + k) end
+      → EndsAt (Known f) ys k end
   ends_back_told f xs ys k end all ends =
       let is = whole f xs ys all in (
         omega (
@@ -135,23 +136,23 @@ module _ {P : Type 0} where
       )
 
   -- and where nothing is told
-  ends_back_untold : (xs ys : List (Entry P)) (k : ℕ) (end : Ending)
-      → EndsAt None (xs ++ ys) (length xs + k) end → EndsAt None ys k end
-  ends_back_untold xs ys k End ends = omega (arith, ends, length-append xs ys)
-  ends_back_untold xs ys k (Invalid b) ends = stops_back _ xs ys k b ends
-  ends_back_untold xs ys k (PastEnd b) ends = stops_back _ xs ys k b ends
-  ends_back_untold xs ys k (Unread b) ends = absurd ends
+  ends_back_untold : (checksums : Bool) (xs ys : List (Entry P)) (k : ℕ) (end : Ending)
+      → EndsAt (Unknown checksums) (xs ++ ys) (length xs + k) end → EndsAt (Unknown checksums) ys k end
+  ends_back_untold checksums xs ys k End ends = omega (arith, ends, length-append xs ys)
+  ends_back_untold checksums xs ys k (Invalid b) ends = stops_back _ xs ys k b ends
+  ends_back_untold checksums xs ys k (PastEnd b) ends = stops_back _ xs ys k b ends
+  ends_back_untold checksums xs ys k (Unread b) ends = absurd ends
 
   -- and in either case
-  ends_back : (found : Option Reader) (xs ys : List (Entry P)) (pages : List (Given P)) (k : ℕ)
+  ends_back : (found : Reading) (xs ys : List (Entry P)) (pages : List (Given P)) (k : ℕ)
       (end : Ending) → length xs ≤ length pages → AreFirst found (xs ++ ys) pages
       → EndsAt found (xs ++ ys) (length xs + k) end → EndsAt found ys k end
-  ends_back None xs ys pages k end far first ends = ends_back_untold xs ys k end ends
-  ends_back (Some f) xs ys pages k end far first ends =
+  ends_back (Unknown checksums) xs ys pages k end far first ends = ends_back_untold checksums xs ys k end ends
+  ends_back (Known f) xs ys pages k end far first ends =
       ends_back_told f xs ys k end (whole_before f xs ys pages first far) ends
 
   -- an ending of both lists is one of the second
-  ending_back : (found : Option Reader) (may : Entry P → Type 0) (xs ys : List (Entry P))
+  ending_back : (found : Reading) (may : Entry P → Type 0) (xs ys : List (Entry P))
       (pages : List (Given P)) (k : ℕ) (end : Ending) → length xs ≤ length pages
       → AreFirst found (xs ++ ys) pages → IsEnding found may (xs ++ ys) (length xs + k) end
       → IsEnding found may ys k end
@@ -164,7 +165,7 @@ module _ {P : Type 0} where
   ending_back found may xs ys pages k (Unread b) far first is = stops_back may xs ys k b is
 
   -- and so it is with all that were asked for
-  endings_back : (found : Option Reader) (may : Entry P → Type 0) (xs ys : List (Entry P))
+  endings_back : (found : Reading) (may : Entry P → Type 0) (xs ys : List (Entry P))
       (pages : List (Given P)) (endings : List Ending) → length xs ≤ length pages
       → AreFirst found (xs ++ ys) pages
       → OneEnding (IsEnding found may (xs ++ ys) (length pages)) endings
@@ -177,7 +178,7 @@ module _ {P : Type 0} where
       (ending_back found may xs ys pages k end far first (subst Q here is.0), is.1)
 
   -- the second of two lists was answered with what is left
-  pub answered_back : (found : Option Reader) (may : Entry P → Type 0) (xs ys : List (Entry P))
+  pub answered_back : (found : Reading) (may : Entry P → Type 0) (xs ys : List (Entry P))
       (pages : List (Given P)) (endings : List Ending) → length xs ≤ length pages
       → IsAnswer found may (xs ++ ys) (record { pages = pages; endings = endings })
       → IsAnswer found may ys (record { pages = drop (length xs) pages; endings = endings })
@@ -187,14 +188,14 @@ module _ {P : Type 0} where
   }
 
   -- fewer pages than the first list has entries are pages of it
-  first_within : (found : Option Reader) (xs ys : List (Entry P)) (pages : List (Given P))
+  first_within : (found : Reading) (xs ys : List (Entry P)) (pages : List (Given P))
       → length pages < length xs → AreFirst found (xs ++ ys) pages → AreFirst found xs pages
-  first_within None xs ys pages short first = (
+  first_within (Unknown checksums) xs ys pages short first = (
     first.0,
     begins_front (map (λ (g : Given P). g.entry) pages) xs ys first.1
         (omega (arith, length-map pages (λ (g : Given P). g.entry))),
   )
-  first_within (Some f) xs ys pages short first = elim (whole_or_stopped f xs ys) [
+  first_within (Known f) xs ys pages short first = elim (whole_or_stopped f xs ys) [
     | inl is ↦ begins_front pages (readable_pages f xs) (readable_pages f ys)
         (first.0, sym is.pages ∙ first.1) (omega (arith, is.all))
     | inr is ↦ (first.0, sym is.pages ∙ first.1)
@@ -212,7 +213,7 @@ module _ {P : Type 0} where
 
   -- how the first list ends, where the contents are told
   ends_within_told : (f : Reader) (xs ys : List (Entry P)) (k : ℕ) (end : Ending)
-      → k < length xs → EndsAt (Some f) (xs ++ ys) k end → EndsAt (Some f) xs k end
+      → k < length xs → EndsAt (Known f) (xs ++ ys) k end → EndsAt (Known f) xs k end
   ends_within_told f xs ys k end below ends = elim (whole_or_stopped f xs ys) [
     | inl is ↦ absurd (omega (
       arith,
@@ -225,22 +226,22 @@ module _ {P : Type 0} where
   ]
 
   -- and where nothing is told
-  ends_within_untold : (xs ys : List (Entry P)) (k : ℕ) (end : Ending) → k < length xs
-      → EndsAt None (xs ++ ys) k end → EndsAt None xs k end
-  ends_within_untold xs ys k End below ends =
+  ends_within_untold : (checksums : Bool) (xs ys : List (Entry P)) (k : ℕ) (end : Ending) → k < length xs
+      → EndsAt (Unknown checksums) (xs ++ ys) k end → EndsAt (Unknown checksums) xs k end
+  ends_within_untold checksums xs ys k End below ends =
       absurd (omega (arith, below, ends, length-append xs ys))
-  ends_within_untold xs ys k (Invalid b) below ends = stops_within _ xs ys k b below ends
-  ends_within_untold xs ys k (PastEnd b) below ends = stops_within _ xs ys k b below ends
-  ends_within_untold xs ys k (Unread b) below ends = absurd ends
+  ends_within_untold checksums xs ys k (Invalid b) below ends = stops_within _ xs ys k b below ends
+  ends_within_untold checksums xs ys k (PastEnd b) below ends = stops_within _ xs ys k b below ends
+  ends_within_untold checksums xs ys k (Unread b) below ends = absurd ends
 
   -- and in either case
-  ends_within : (found : Option Reader) (xs ys : List (Entry P)) (k : ℕ) (end : Ending)
+  ends_within : (found : Reading) (xs ys : List (Entry P)) (k : ℕ) (end : Ending)
       → k < length xs → EndsAt found (xs ++ ys) k end → EndsAt found xs k end
-  ends_within None xs ys k end below ends = ends_within_untold xs ys k end below ends
-  ends_within (Some f) xs ys k end below ends = ends_within_told f xs ys k end below ends
+  ends_within (Unknown checksums) xs ys k end below ends = ends_within_untold checksums xs ys k end below ends
+  ends_within (Known f) xs ys k end below ends = ends_within_told f xs ys k end below ends
 
   -- an ending of both lists that stands in the first is one of it
-  ending_within : (found : Option Reader) (may : Entry P → Type 0) (xs ys : List (Entry P))
+  ending_within : (found : Reading) (may : Entry P → Type 0) (xs ys : List (Entry P))
       (k : ℕ) (end : Ending) → k < length xs → IsEnding found may (xs ++ ys) k end
       → IsEnding found may xs k end
   ending_within found may xs ys k End below is = ends_within found xs ys k End below is
@@ -251,7 +252,7 @@ module _ {P : Type 0} where
   ending_within found may xs ys k (Unread b) below is = stops_within may xs ys k b below is
 
   -- and so it is with all that were asked for
-  endings_within : (found : Option Reader) (may : Entry P → Type 0) (xs ys : List (Entry P))
+  endings_within : (found : Reading) (may : Entry P → Type 0) (xs ys : List (Entry P))
       (k : ℕ) (endings : List Ending) → k < length xs
       → OneEnding (IsEnding found may (xs ++ ys) k) endings
       → OneEnding (IsEnding found may xs k) endings
@@ -260,7 +261,7 @@ module _ {P : Type 0} where
       (ending_within found may xs ys k end below is.0, is.1)
 
   -- answers that did not reach the second of two lists answer the first
-  pub answered_within : (found : Option Reader) (may : Entry P → Type 0) (xs ys : List (Entry P))
+  pub answered_within : (found : Reading) (may : Entry P → Type 0) (xs ys : List (Entry P))
       (pages : List (Given P)) (endings : List Ending) → length pages < length xs
       → IsAnswer found may (xs ++ ys) (record { pages = pages; endings = endings })
       → IsAnswer found may xs (record { pages = pages; endings = endings })

@@ -4,6 +4,7 @@ use Rattle.std.proofs.Common.{◌∙◌, subst, arith}
 use Rattle.std.specs.Prelude.{IfSome, Bool, vec_capacity, is_some, cond}
 use Rattle.std.specs.List.{All}
 use Rattle.std.specs.Vec.Iter.{into_iter_items}
+use Rattle.page_check.specs.declared.rules.PageRules.{PageRules}
 use Rattle.page_check.specs.declared.world.World.{Ghosts as WorldGhosts}
 use Rattle.aio_word.specs.declared.Config.{Config}
 use Rattle.aio_handle.specs.ContractViews.{AreNewActors}
@@ -12,7 +13,7 @@ use Rattle.aio_disk.specs.declared.disk.Disk.{Ghosts as DiskGhosts}
 use Rattle.scan_rounds.specs.ListOptions.{list_options}
 use Rattle.scan_rounds.specs.OpenedScan.{AreValidScanSettings, GivesBackends, GivesWorkers}
 use Rattle.scan_rounds.specs.OpenedScan.{IsDeskFor, IsOpenedScan, config_of, needs_of_method}
-use Rattle.scan_rounds.specs.OpenedScan.{rings_of_settings, seats_of_settings, workers_of_settings}
+use Rattle.scan_rounds.specs.OpenedScan.{page_rules, rings_of_settings, seats_of_settings, workers_of_settings}
 use Rattle.scan_rounds.specs.Rings.{IsRingOf}
 use Rattle.scan_rounds.specs.Rounds.{IsLeastRoom}
 use Rattle.scan_rounds.specs.Scans.{IsScan, scan_options, opened_disks}
@@ -27,7 +28,7 @@ use Rattle.scan_rounds.proofs.NewDiskActors.{none_taken, paid_of_new, backends_o
 use Rattle.scan_rounds.proofs.NewDiskActors.{workers_of_new}
 use Rattle.scan_rounds.proofs.SeatsAndRings.{beside_workers, has_wanted}
 
-same_options : {a b c d : Bool} → a ≡ b → c ≡ d → list_options a c ≡ list_options b d
+same_options : {a b : PageRules} {c d : Bool} → a ≡ b → c ≡ d → list_options a c ≡ list_options b d
 same_options same also = rw (same, also) refl
 
 module _ {W D : Type 0} where
@@ -50,7 +51,7 @@ module _ {W D : Type 0} where
     pub workers_are : length s.workers.items ≡ workers_of_settings settings
     pub room : s.room ≡ 2 ^ 58 - 1 - start
     pub unread : s.unread ≡ 0
-    pub options_are : scan_options s ≡ list_options settings.zero settings.tuples
+    pub options_are : scan_options s ≡ list_options (page_rules settings) settings.tuples
     pub actors_fit : (s.actors.items ≡ [])
         × (settings.backends + workers_of_settings settings ≤ vec_capacity s.actors)
     pub disks_fit : (s.disks.items ≡ [])
@@ -163,7 +164,7 @@ module _ {W D : Type 0} where
                 s.shared.queue (omega (arith, backends)) worker_seats;
             counters_are = paid_of_new t (opened_disks s) bs ws all_new m world
                 disks_as_many;
-            all_have_options = λ k b lt. same_options (all_desks k b lt).streams.zero
+            all_have_options = λ k b lt. same_options (all_desks k b lt).streams.rules
                 (made.backends.each k b lt).tuples_are ∙ sym made.options_are;
             room = subst P same rooms;
             few_unread = omega (arith, none);

@@ -5,7 +5,8 @@ use Rattle.std.specs.Prelude.{Option, Some, None}
 use Rattle.std.specs.List.{filter, range_with_len}
 use Rattle.std.proofs.lemmas.List.{length-map}
 use Rattle.page_check.specs.Told.{Told}
-use Rattle.page_check.specs.SynchronousAnswer.{Reader, Ending as SaidEnding, reader_of}
+use Rattle.page_check.specs.declared.rules.PageRules.{PageRules}
+use Rattle.page_check.specs.SynchronousAnswer.{Reading, Ending as SaidEnding, reading_of}
 use Rattle.page_check.specs.IsAnswer.{Answers, IsAnswer, IsEnding, OneEnding}
 use Rattle.aio_word.specs.declared.Known.{Known}
 use Rattle.aio_handle.specs.ContractViews.{ActorView}
@@ -67,7 +68,7 @@ source_entries block_filter r first count = kept_entries block_filter r
     (consecutive_blocks first count) ∙ ap (unskipped_entries block_filter)
     (range_entries r first count)
 
-endings_wider : (found : Option Reader) (may may' : E → Type 0) (entries : List E) (k : ℕ)
+endings_wider : (found : Reading) (may may' : E → Type 0) (entries : List E) (k : ℕ)
     (ends : List SaidEnding) → ((e : E) → may e → may' e)
     → OneEnding (IsEnding found may entries k) ends
     → OneEnding (IsEnding found may' entries k) ends
@@ -76,7 +77,7 @@ endings_wider found may may' entries k (end ∷ more) wider is =
     (ending_wider found may may' entries k end wider is.0, is.1)
 
 -- answers, where an entry that may be unread may be so later
-pub answer_wider : (found : Option Reader) (may may' : E → Type 0) (entries : List E)
+pub answer_wider : (found : Reading) (may may' : E → Type 0) (entries : List E)
     (answers : Answers (Unit {0})) → ((e : E) → may e → may' e)
     → IsAnswer found may entries answers → IsAnswer found may' entries answers
 answer_wider found may may' entries answers wider a = record {
@@ -100,23 +101,23 @@ source_few block_filter first count =
     let few = few_in_range block_filter 0 first count in omega arith)
 
 -- what was taken of a stream is so once the stream was closed
-pub given_moved : (holds : PagesPredicate) (on on' : Bool) (told : Option Told) (p p' : ActorView)
+pub given_moved : (holds : PagesPredicate) (rules rules' : PageRules) (told : Option Told) (p p' : ActorView)
     (q z : Known) (reads reads' faults faults' : ℕ) (entries entries' : List E)
-    (end : Option SaidEnding) → on' ≡ on → p' ≡ p → entries' ≡ entries
+    (end : Option SaidEnding) → rules' ≡ rules → p' ≡ p → entries' ≡ entries
     → ActorAdvanced q z reads reads' faults faults'
-    → PagesConsumed holds on' told (MayBeUnread p' q) entries' end
-    → PagesConsumed holds on told (MayBeUnread p z) entries end
-given_moved holds on on' told p p' q z reads reads' faults faults' entries entries' end zero same
+    → PagesConsumed holds rules' told (MayBeUnread p' q) entries' end
+    → PagesConsumed holds rules told (MayBeUnread p z) entries end
+given_moved holds rules rules' told p p' q z reads reads' faults faults' entries entries' end read same
     list w given =
-    let here : PagesConsumed holds on told (MayBeUnread p q) entries end =
-    subst (λ (b : Bool). PagesConsumed holds b told (MayBeUnread p q) entries end) zero
-    (subst (λ (es : List E). PagesConsumed holds on' told (MayBeUnread p q) es end) list
-    (subst (λ (x : ActorView). PagesConsumed holds on' told (MayBeUnread x q) entries' end)
+    let here : PagesConsumed holds rules told (MayBeUnread p q) entries end =
+    subst (λ (b : PageRules). PagesConsumed holds b told (MayBeUnread p q) entries end) read
+    (subst (λ (es : List E). PagesConsumed holds rules' told (MayBeUnread p q) es end) list
+    (subst (λ (x : ActorView). PagesConsumed holds rules' told (MayBeUnread x q) entries' end)
     same given))
     in record {
       pages = here.pages;
       held = here.held;
       none_zeroed = here.none_zeroed;
-      answers = answer_wider (reader_of on told) (MayBeUnread p q) (MayBeUnread p z) entries _
+      answers = answer_wider (reading_of rules told) (MayBeUnread p q) (MayBeUnread p z) entries _
           (may_later p q z reads reads' faults faults' w) here.answers;
     }

@@ -7,7 +7,7 @@ use Rattle.std.specs.List.{All, AllZip}
 use Rattle.std.proofs.lemmas.List.Elements.{All-tail}
 use Rattle.std.proofs.lemmas.List.Sums.{sum_by-append, sum_by-cons}
 use Rattle.page_check.specs.declared.world.World.{Ghosts as WorldGhosts}
-use Rattle.page_check.specs.SynchronousAnswer.{Entry, reader_of}
+use Rattle.page_check.specs.SynchronousAnswer.{Entry, reading_of}
 use Rattle.page_check.specs.Told.{Told}
 use Rattle.aio_handle.specs.ContractViews.{TableView}
 use Rattle.method_worker.specs.QueueViews.{QueueView}
@@ -45,7 +45,7 @@ anyway {block_filter} {how} {told} {may} j k is = record {
     text_is = is.answer.text_is;
     warnings_are = is.answer.warnings_are;
     sums_are = is.answer.sums_are;
-    answers = answer_wider (reader_of how.zero told) may (λ _. ⊤) (entries_of_job block_filter j) _
+    answers = answer_wider (reading_of how.rules told) may (λ _. ⊤) (entries_of_job block_filter j) _
         (λ e may. tt) is.answer.answers;
   };
   no_warnings = is.no_warnings;

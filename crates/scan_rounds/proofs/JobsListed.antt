@@ -11,7 +11,7 @@ use Rattle.std.proofs.lemmas.Bool.Decides.{nat_tests}
 use Rattle.std.proofs.lemmas.List.Elements.{All-head, All-tail, All-take, All-drop, All-nil}
 use Rattle.std.proofs.lemmas.List.Sums.{sum_by-cons}
 use Rattle.page_check.specs.Told.{Told}
-use Rattle.page_check.specs.SynchronousAnswer.{reader_of}
+use Rattle.page_check.specs.SynchronousAnswer.{reading_of}
 use Rattle.page_check.specs.IsAnswer.{IsAnswer}
 use Rattle.page_check.proofs.AnswersInOrder.{answered_none}
 use Rattle.heap_scan.specs.Job.{endings_of}
@@ -103,8 +103,8 @@ module _ (block_filter : Option BlockFilter) (how : ListOptions) (told : Option 
   -- a job that has these pages of its blocks, and ended so
   listed_one : (j l : Job) (end : Ending) (pages : List G) → job_outline l ≡ job_outline (ended_job end j)
       → JobHasOutput (text_with how.tuples) l pages
-      → (how.zero ≡ false → All (λ g. g.zeroed ≡ false) pages)
-      → IsAnswer (reader_of how.zero told) may (entries_of_job block_filter j)
+      → (how.rules.zero ≡ false → All (λ g. g.zeroed ≡ false) pages)
+      → IsAnswer (reading_of how.rules told) may (entries_of_job block_filter j)
       (record { pages = pages; endings = endings_of (answered_ending end) })
       → JobIsListed block_filter how told may j l
   listed_one j l end pages same has quiet is = record {
@@ -118,7 +118,7 @@ module _ (block_filter : Option BlockFilter) (how : ListOptions) (told : Option 
       text_is = has.text_is;
       warnings_are = has.warnings_are;
       sums_are = has.sums_are;
-      answers = subst (λ (e : Ending). IsAnswer (reader_of how.zero told) may
+      answers = subst (λ (e : Ending). IsAnswer (reading_of how.rules told) may
           (entries_of_job block_filter j)
           (record { pages = pages; endings = endings_of (answered_ending e) }))
           (sym (ap (λ (o : JobOutline). o.ending) same)) is;
@@ -141,7 +141,7 @@ module _ (block_filter : Option BlockFilter) (how : ListOptions) (told : Option 
             (ap (λ (o : JobOutline). record o { ending = ending.NoMemory }) head)
             (ended_has (text_with how.tuples) l ending.NoMemory [] both.0)
             (λ off. All-nil (λ g. g.zeroed ≡ false))
-            (answered_none (reader_of how.zero told) may (entries_of_job block_filter j)),
+            (answered_none (reading_of how.rules told) may (entries_of_job block_filter j)),
         none_listed js ls tail both.1,
       )
 
@@ -149,8 +149,8 @@ module _ (block_filter : Option BlockFilter) (how : ListOptions) (told : Option 
   pub all_listed : (js ls : List Job) (pages : List G) (end : Ending)
       → map job_outline ls ≡ map job_outline js → All NotEnded js
       → AreWholeButLast block_filter js → JobsHaveOutput (text_with how.tuples) ls pages
-      → (how.zero ≡ false → All (λ g. g.zeroed ≡ false) pages)
-      → IsAnswer (reader_of how.zero told) may (entries_of_jobs block_filter js)
+      → (how.rules.zero ≡ false → All (λ g. g.zeroed ≡ false) pages)
+      → IsAnswer (reading_of how.rules told) may (entries_of_jobs block_filter js)
       (record { pages = pages; endings = endings_of (answered_ending end) })
       → AllZip (JobIsListed block_filter how told may) js (ended_jobs ls (length pages) end)
   all_listed [] [] pages end same fresh whole has quiet is = tt
@@ -163,13 +163,13 @@ module _ (block_filter : Option BlockFilter) (how : ListOptions) (told : Option 
         listed_one j (ended_job end l) end pages
             (ap (λ (o : JobOutline). record o { ending = end }) head)
             (ended_has (text_with how.tuples) l end pages has) quiet
-            (subst (λ (es : List E). IsAnswer (reader_of how.zero told) may es
+            (subst (λ (es : List E). IsAnswer (reading_of how.rules told) may es
             (record { pages = pages; endings = endings_of (answered_ending end) }))
             (append-nil (entries_of_job block_filter j)) is),
         tt,
       )
   all_listed (j ∷ k ∷ js) (l ∷ m ∷ ls) pages end same fresh whole has quiet is =
-      let found = reader_of how.zero told in
+      let found = reading_of how.rules told in
       let xs = entries_of_job block_filter j in
       let ys = entries_of_jobs block_filter (k ∷ js) in
       let endings = endings_of (answered_ending end) in

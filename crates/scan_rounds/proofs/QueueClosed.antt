@@ -79,8 +79,8 @@ module _ {W D : Type 0} where
       → 1 ≤ length bs → c.desk ≡ b.desk → c.tuples ≡ b.tuples → (how : ListOptions)
       → AllHaveOptions how bs → AllHaveOptions how (slice_set bs 0 c)
   first_options bs b c is some desk tuples how all =
-      let same = ap (λ (x : Desk W (Unit {0})). list_options x.settings.zero c.tuples) desk
-      ∙ ap (λ (x : Bool). list_options b.desk.settings.zero x) tuples in
+      let same = ap (λ (x : Desk W (Unit {0})). list_options x.settings.rules c.tuples) desk
+      ∙ ap (λ (x : Bool). list_options b.desk.settings.rules x) tuples in
       All-set (λ (x : Backend W D). backend_options x ≡ how) bs 0 c
       (same ∙ (ap (λ (x : Backend W D). backend_options x) is ∙ all 0 b some)) all
 

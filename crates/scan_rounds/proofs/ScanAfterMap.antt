@@ -6,7 +6,7 @@ use Rattle.std.specs.List.{All, AllZip}
 use Rattle.std.proofs.lemmas.List.Elements.{All-tail}
 use Rattle.std.proofs.lemmas.List.Sums.{sum_by-cons}
 use Rattle.page_check.specs.declared.world.World.{Ghosts as WorldGhosts}
-use Rattle.page_check.specs.SynchronousAnswer.{reader_of}
+use Rattle.page_check.specs.SynchronousAnswer.{reading_of}
 use Rattle.aio_word.specs.Tokens.{failed_result_count}
 use Rattle.aio_handle.specs.ContractViews.{TableView}
 use Rattle.method_worker.specs.QueueViews.{QueueView}
@@ -103,7 +103,7 @@ module _ {W D : Type 0} (m : DiskGhosts D) (world : WorldGhosts W) (t : TableVie
           ≤ failed_result_count read.after.disk_actor.actor.known.marks
       unread_or true is =
           let given = read.read.read.given in
-          unread_after (reader_of read.before.desk.settings.zero world.told) _ _
+          unread_after (reading_of read.before.desk.settings.rules world.told) _ _
           (entries_of_blocks (map_blocks relation pages)) given.pages end given.answers is
       unread_or false is =
           let went = read.read.read.advanced in
@@ -124,7 +124,7 @@ module _ {W D : Type 0} (m : DiskGhosts D) (world : WorldGhosts W) (t : TableVie
       pub map_read : (how : ListOptions) → AllHaveOptions how bs
           → MapPagesConsumed how world.told bs cs relation pages found warnings end
       map_read how all = rw (read.backends_were, read.backends_are)
-          (λ d. subst (λ (n : ListOptions). PagesConsumed (MapHasPages found warnings) n.zero
+          (λ d. subst (λ (n : ListOptions). PagesConsumed (MapHasPages found warnings) n.rules
           world.told
           (MayBeUnread read.before.disk_actor.actor read.after.disk_actor.actor.known)
           (job_entries relation 0 pages) (answered_ending end))

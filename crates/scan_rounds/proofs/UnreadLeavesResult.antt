@@ -2,7 +2,7 @@
 use Rattle.std.proofs.Common.{◌≡◌, ℕ, ◌+◌, ◌≤◌, true, List}
 use Rattle.std.specs.Prelude.{Option}
 use Rattle.page_check.specs.Told.{Told}
-use Rattle.page_check.specs.SynchronousAnswer.{Given, Reader, Unread, reader_of}
+use Rattle.page_check.specs.SynchronousAnswer.{Given, Reading, Unread, reading_of}
 use Rattle.page_check.specs.IsAnswer.{IsAnswer, IsEnding}
 use Rattle.aio_word.specs.declared.Known.{Known}
 use Rattle.aio_word.specs.Tokens.{failed_result_count}
@@ -18,12 +18,12 @@ use Rattle.scan_rounds.proofs.UnitEntries.{E}
 use Rattle.scan_rounds.specs.declared.job.Ending.{Ending}
 use Rattle.scan_rounds.specs.declared.job.Ending.TheVariants as ending
 
-cause_of : (found : Option Reader) (may : E → Type 0) (entries : List E) (k : ℕ) (b : ℕ)
+cause_of : (found : Reading) (may : E → Type 0) (entries : List E) (k : ℕ) (b : ℕ)
     → IsEnding found may entries k (Unread b) → (x : E) × may x
 cause_of found may entries k b is = (is.next, is.cause)
 
 -- answers that end in Unread have left one failed result more
-pub unread_after : (found : Option Reader) (was : ActorView) (q : Known) (entries : List E)
+pub unread_after : (found : Reading) (was : ActorView) (q : Known) (entries : List E)
     (pages : List (Given (Unit {0}))) (e : Ending)
     → IsAnswer found (MayBeUnread was q) entries
     (record { pages = pages; endings = endings_of (answered_ending e) })
@@ -43,5 +43,5 @@ pub unread_counted : {block_filter : Option BlockFilter} (how : ListOptions) (to
     j k → is_unread k.ending ≡ true → failed_result_count was.known.marks + 1
     ≤ failed_result_count q.marks
 unread_counted {block_filter} how told was q j k l is =
-    unread_after (reader_of how.zero told) was q (entries_of_job block_filter j)
+    unread_after (reading_of how.rules told) was q (entries_of_job block_filter j)
     l.answer.pages k.ending l.answer.answers is

@@ -3,8 +3,9 @@ use Rattle.std.specs.Prelude.{◌≡◌, ℕ, List, ◌∷◌, [], ◌++◌, map
 use Rattle.std.specs.Prelude.{take, drop, length}
 use Rattle.std.specs.List.{All}
 use Rattle.page_check.specs.IsAnswer.{IsAnswer, Next as Said, Page, Stop}
-use Rattle.page_check.specs.SynchronousAnswer.{Entry, Given, Ending as SaidEnding, reader_of}
+use Rattle.page_check.specs.SynchronousAnswer.{Entry, Given, Ending as SaidEnding, reading_of}
 use Rattle.page_check.specs.Told.{Told}
+use Rattle.page_check.specs.declared.rules.PageRules.{PageRules}
 use Rattle.heap_scan.specs.Job.{endings_of}
 use Rattle.heap_scan.specs.Listing.{TextOf, listing}
 use Rattle.heap_scan.specs.Sums.{sums_of}
@@ -33,13 +34,13 @@ AnswerConsumed was is (Stop end) result = (result ≡ Some (job_ending end)) × 
 
 -- pages that, with this ending, answer the entries are held; none of them was zeroed where damaged
 -- pages are not given as zeros
-pub record PagesConsumed (holds : PagesPredicate) (zero : Bool) (told : Option Told)
+pub record PagesConsumed (holds : PagesPredicate) (rules : PageRules) (told : Option Told)
     (may : Entry (Unit {0}) → Type 0) (entries : List (Entry (Unit {0})))
     (end : Option SaidEnding) : Type 0 where
   pub pages : List (Given (Unit {0}))
   pub held : holds pages
-  pub none_zeroed : zero ≡ false → All (λ g. g.zeroed ≡ false) pages
-  pub answers : IsAnswer (reader_of zero told) may entries
+  pub none_zeroed : rules.zero ≡ false → All (λ g. g.zeroed ≡ false) pages
+  pub answers : IsAnswer (reading_of rules told) may entries
       (record { pages = pages; endings = endings_of end })
 
 -- a job has the text, the warnings and the sums of the pages

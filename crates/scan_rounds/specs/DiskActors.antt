@@ -55,7 +55,7 @@ pub record IsStreamOfJobs (b : Blocks) (jobs : List Job) : Type 0 where
 
 -- the options with which a backend lists
 abbrev pub backend_options : {W D : Type 0} → Backend W D → ListOptions
-backend_options b = list_options b.desk.settings.zero b.tuples
+backend_options b = list_options b.desk.settings.rules b.tuples
 
 module _ {W D : Type 0} (m : DiskGhosts D) (world : WorldGhosts W)
     (t : TableView) where
@@ -99,8 +99,8 @@ module _ {W D : Type 0} (m : DiskGhosts D) (world : WorldGhosts W)
         ≤ lives_ended n h.actor.known.marks + b.count
     pub results_bound : local_mark_count k.actor.known.marks
         ≤ local_mark_count h.actor.known.marks + length (entries_of_blocks b)
-    pub desk : IsFreeDesk e × (e.settings.zero ≡ d.settings.zero)
-    pub given : PagesConsumed holds d.settings.zero world.told (MayBeUnread h.actor k.actor.known)
+    pub desk : IsFreeDesk e × (e.settings.rules ≡ d.settings.rules)
+    pub given : PagesConsumed holds d.settings.rules world.told (MayBeUnread h.actor k.actor.known)
         (entries_of_blocks b) (answered_ending end)
 
   -- the actor may list these jobs at this desk, by a stream of these blocks
@@ -121,8 +121,8 @@ module _ {W D : Type 0} (m : DiskGhosts D) (world : WorldGhosts W)
         ≤ local_mark_count h.actor.known.marks + count_unskipped block_filter js
     pub unread : failed_result_count h.actor.known.marks + unread_job_count ls
         ≤ failed_result_count k.actor.known.marks
-    pub desk : IsFreeDesk e × (e.settings.zero ≡ d.settings.zero)
-    pub listed : AllZip (JobIsListed block_filter (list_options d.settings.zero tuples) world.told
+    pub desk : IsFreeDesk e × (e.settings.rules ≡ d.settings.rules)
+    pub listed : AllZip (JobIsListed block_filter (list_options d.settings.rules tuples) world.told
         (MayBeUnread h.actor k.actor.known)) js ls
 
   module _ (q : QueueView) where

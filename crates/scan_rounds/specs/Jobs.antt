@@ -3,7 +3,7 @@ use Rattle.std.specs.Prelude.{◌≡◌, ℕ, ◌+◌, ◌^◌, ◌<◌, ◌≤�
 use Rattle.std.specs.Prelude.{Option, Some, None, Bool, true, false, slice_index_or, ⊤, cond}
 use Rattle.std.specs.Prelude.{◌++◌, ◌∷◌, ◌-◌, map, nat_le, if◌then◌else◌}
 use Rattle.page_check.specs.Told.{Told}
-use Rattle.page_check.specs.SynchronousAnswer.{Entry, reader_of, Ending as SaidEnding, End}
+use Rattle.page_check.specs.SynchronousAnswer.{Entry, reading_of, Ending as SaidEnding, End}
 use Rattle.page_check.specs.SynchronousAnswer.{Invalid as SaidInvalid, PastEnd as SaidPastEnd}
 use Rattle.page_check.specs.SynchronousAnswer.{Unread as SaidUnread}
 use Rattle.heap_scan.specs.Job.{IsJobAnswer}
@@ -110,10 +110,10 @@ count_unskipped block_filter jobs = sum_by (λ j. length (entries_of_job block_f
 pub record JobIsListed (block_filter : Option BlockFilter) (m : ListOptions) (told : Option Told)
     (may : Entry (Unit {0}) → Type 0) (j k : Job) : Type 0 where
   pub same : (k.relation ≡ j.relation) × (k.first ≡ j.first) × (k.count ≡ j.count)
-  pub answer : IsJobAnswer (text_with m.tuples) (reader_of m.zero told) may
+  pub answer : IsJobAnswer (text_with m.tuples) (reading_of m.rules told) may
       (entries_of_job block_filter j) k.text.items k.warnings.items k.tally (answered_ending
       k.ending)
-  pub no_warnings : m.zero ≡ false → k.warnings.items ≡ []
+  pub no_warnings : m.rules.zero ≡ false → k.warnings.items ≡ []
 
 -- what has become of jobs that were put, whichever block may be unread
 pub record AllJobsAnswered (block_filter : Option BlockFilter) (m : ListOptions) (told : Option

@@ -5,6 +5,7 @@ use Rattle.std.specs.Prelude.{true, false, cond}
 use Rattle.std.specs.Option.{is_some}
 use Rattle.std.specs.List.{All}
 use Rattle.std.specs.Vec.Iter.{into_iter_items}
+use Rattle.page_check.specs.declared.rules.PageRules.{PageRules}
 use Rattle.page_check.specs.declared.world.World.{Ghosts as WorldGhosts}
 use Rattle.aio_word.specs.declared.Config.{Config}
 use Rattle.aio_handle.specs.ContractViews.{AreNewActors}
@@ -28,6 +29,10 @@ use Rattle.scan_rounds.specs.declared.settings.MethodKind.TheVariants as method
 use Rattle.scan_rounds.specs.declared.settings.MethodNeeds.{MethodNeeds}
 use Rattle.scan_rounds.specs.declared.settings.ScanSettings.{ScanSettings}
 use Rattle.scan_rounds.specs.declared.worker.Worker.{Worker}
+
+-- how its pages are read
+abbrev pub page_rules : ScanSettings → PageRules
+page_rules s = record { checksums = s.checksums; zero = s.zero }
 
 -- what a scan has by a method: a seat of the queue for each backend, workers, rings
 abbrev pub needs_of_method : MethodKind → MethodNeeds
@@ -84,7 +89,7 @@ pub record AreStreamSettings (s : ScanSettings) (r : Settings) : Type 0 where
   pub full : r.full ≡ s.full
   pub batch : r.batch ≡ s.batch
   pub segment : r.segment ≡ s.segment
-  pub zero : r.zero ≡ s.zero
+  pub rules : r.rules ≡ page_rules s
 
 -- a desk for the streams of a scan
 pub record IsDeskFor {W : Type 0} (s : ScanSettings) (d : Desk W (Unit {0})) : Type 0 where
@@ -171,4 +176,4 @@ pub record IsOpenedScan {W D : Type 0} (m : DiskGhosts D) (world : WorldGhosts W
   -- up to the last generation
   pub room : s.room ≡ 2 ^ 58 - 1 - start
   pub unread : s.unread ≡ 0
-  pub options_are : scan_options s ≡ list_options settings.zero settings.tuples
+  pub options_are : scan_options s ≡ list_options (page_rules settings) settings.tuples

@@ -61,7 +61,7 @@ module _ {W D : Type 0} where
       → ℕ → ℕ
       → Map → List ℕ → Ending → Type 0
   MapPagesConsumed m told bs cs relation pages map warnings end =
-      (d : Backend W D) → PagesConsumed (MapHasPages map warnings) m.zero told
+      (d : Backend W D) → PagesConsumed (MapHasPages map warnings) m.rules told
       (MayBeUnread (slice_index_or bs 0 d).disk_actor.actor
       (slice_index_or cs 0 d).disk_actor.actor.known) (job_entries relation 0 pages)
       (answered_ending end)

@@ -61,7 +61,7 @@ fn stream_settings(settings: &ScanSettings) -> Settings
         full: settings.full,
         batch: settings.batch,
         segment: settings.segment,
-        zero: settings.zero,
+        rules: settings.page_rules(),
     }
 }
 

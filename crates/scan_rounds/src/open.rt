@@ -167,7 +167,7 @@ fn assemble_scan<W: World, D: Disk>(
         alloc,
         room: LAST_GENERATION - start,
         unread: 0,
-        zero: settings.zero,
+        rules: settings.page_rules(),
         tuples: settings.tuples,
         opened,
         actors: lists.actors,

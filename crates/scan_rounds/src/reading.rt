@@ -54,7 +54,7 @@ fn take_all<
     ensures advanced { CallAdvanced E.Execute M.Method actor.old actor.new runner.old runner.new
         method.old method.new }
     ensures given { PagesConsumed (C.holds consumer.new) (stream_view S.left
-        stream.old).settings.zero W.told
+        stream.old).settings.rules W.told
         (MayBeUnread (stream_view S.left stream.old).actor_was actor.new.known)
         (stream_entries relation (stream_view S.left stream.old).blocks) (answered_ending result) }
     ensures kept { C.kept consumer.new ≡ C.kept consumer.old }
@@ -102,8 +102,8 @@ pub(crate) fn read<W: World, M: Method<ReadIo, W>, E: Execute<ReadIo, W>, T: Wai
         ≤ lives_ended h actor.old.known.marks + blocks.entry.count }
     ensures results_bound { local_mark_count actor.new.known.marks
         ≤ local_mark_count actor.old.known.marks + length (entries_of_blocks blocks.entry) }
-    ensures desk { IsFreeDesk desk.new × (desk.new.settings.zero ≡ desk.old.settings.zero) }
-    ensures given { PagesConsumed (C.holds consumer.new) desk.old.settings.zero W.told
+    ensures desk { IsFreeDesk desk.new × (desk.new.settings.rules ≡ desk.old.settings.rules) }
+    ensures given { PagesConsumed (C.holds consumer.new) desk.old.settings.rules W.told
         (MayBeUnread actor.old actor.new.known) (entries_of_blocks blocks.entry)
         (answered_ending result) }
     ensures kept { C.kept consumer.new ≡ C.kept consumer.old }

@@ -7,7 +7,7 @@ use crate::worker::Worker;
 use aio_callback::ReadIo;
 use aio_disk::Disk;
 use aio_handle::Actor;
-use page_check::World;
+use page_check::{PageRules, World};
 use std::alloc::Global;
 use std::snapshot::Snapshot;
 
@@ -24,8 +24,8 @@ pub struct Scan<W: World, D: Disk> {
     pub(crate) room: u64,
     // How many jobs have ended in Unread.
     pub(crate) unread: u64,
-    // Whether damaged pages are given as zeros.
-    pub(crate) zero: bool,
+    // How pages are read.
+    pub(crate) rules: PageRules,
     // Whether the headers of tuples are listed too.
     pub(crate) tuples: bool,
     // The disks as they were when the scan was opened, those of the backends first.

@@ -1,8 +1,10 @@
 //! How a scan reads.
 ghost use Rattle.std.specs.Prelude.{◌≡◌};
 ghost use Rattle.scan_rounds.specs.OpenedScan.{AreValidScanSettings, needs_of_method};
-ghost use Rattle.scan_rounds.specs.OpenedScan.{required_disks, rings_of_settings};
+ghost use Rattle.scan_rounds.specs.OpenedScan.{page_rules, required_disks, rings_of_settings};
 ghost use Rattle.scan_rounds.specs.OpenedScan.{seats_of_settings, workers_of_settings};
+
+use page_check::PageRules;
 
 /// Who executes I/O (`io_method`).
 #[derive(Clone, Copy, Debug, PartialEq, Eq)]
@@ -66,6 +68,8 @@ pub struct ScanSettings {
     pub full: bool,
     /// The segment size in blocks (`RELSEG_SIZE`), at least 1: no read crosses a multiple of it.
     pub segment: u32,
+    /// Whether page checksums are verified (`data_checksums`).
+    pub checksums: bool,
     /// Whether damaged pages are given as zeros, with a warning (`zero_damaged_pages`).
     pub zero: bool,
     /// Whether the headers of heap tuples and the update chains are listed too.
@@ -73,6 +77,16 @@ pub struct ScanSettings {
 }
 
 impl ScanSettings {
+    /// How the pages of a scan are read.
+    pub fn page_rules(&self) -> PageRules
+        ensures { result ≡ page_rules self.now }
+    {
+        PageRules {
+            checksums: self.checksums,
+            zero: self.zero,
+        }
+    }
+
     /// How many workers a scan has.
     pub(crate) fn worker_count(&self) -> u32
         ensures { result ≡ workers_of_settings self.now }

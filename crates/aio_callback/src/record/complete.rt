@@ -52,6 +52,8 @@ impl ReadIo {
         self.zeroed.fill(false);
         self.result = run_chain(
             &self.ids[..self.id_count],
+            self.checksums,
+            self.first,
             self.count,
             self.pages.as_mut_slice(),
             self.zeroed.as_mut_slice(),
@@ -76,7 +78,14 @@ impl ReadIo {
         };
         for index in 0..self.count {
             let page = self.page_if(index, good);
-            places.finish(rt, self.relation, self.first + index, reference, page);
+            places.finish(
+                rt,
+                self.relation,
+                self.first + index,
+                self.checksums,
+                reference,
+                page,
+            );
         }
     }
 

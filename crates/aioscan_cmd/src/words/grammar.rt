@@ -24,7 +24,14 @@ const OPTIONS: [&str; 12] = [
 ];
 
 // The flags.
-const FLAGS: [&str; 5] = ["batch", "full", "stats", "zero-damaged", "tuples"];
+const FLAGS: [&str; 6] = [
+    "batch",
+    "full",
+    "stats",
+    "checksums",
+    "zero-damaged",
+    "tuples",
+];
 
 fn option<'a>(alloc: Global, name: &'a str) -> Arg<'a>
     ensures rule { rule_of result ≡ option_rule name.entry.now }

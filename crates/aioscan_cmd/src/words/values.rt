@@ -120,6 +120,8 @@ pub(crate) fn flag(matches: &ArgMatches<'_>, name: &str) -> bool
 pub(crate) fn settings(matches: &ArgMatches<'_>) -> Option<ScanSettings>
     ensures settings { result ≡ parsed_settings (rows_of (found_of matches.now)) }
     ensures within { IfSome result AreValidScanSettings }
+    ensures checksums { IfSome result (λ s. s.checksums
+        ≡ is_set (first_of (codes "checksums") (rows_of (found_of matches.now)))) }
 {
     Some(ScanSettings {
         method: method(matches, "method")?,
@@ -132,6 +134,7 @@ pub(crate) fn settings(matches: &ArgMatches<'_>) -> Option<ScanSettings>
         batch: flag(matches, "batch"),
         full: flag(matches, "full"),
         segment: SEGMENT_SIZE,
+        checksums: flag(matches, "checksums"),
         zero: flag(matches, "zero-damaged"),
         tuples: flag(matches, "tuples"),
     })

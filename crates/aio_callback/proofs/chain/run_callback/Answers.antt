@@ -6,5 +6,5 @@ use Rattle.aio_callback.proofs.chain.run_callback.Goals as goal
 pub returns-in-ZeroBuffer-clause-below : goal.returns-in-ZeroBuffer-clause-below
 returns-in-ZeroBuffer-clause-below c =
     let same = ap (λ (o : Outcome). natural_part o.result.result) c.run_zero.ensures in
-    let few = zero_below (outcome_of c.args.before c.args.pages.now c.args.zeroed.now) in
+    let few = zero_below c.args.checksums c.args.first (outcome_of c.args.before c.args.pages.now c.args.zeroed.now) in
     omega arith

@@ -8,5 +8,5 @@ returns-then-bad-clause-zeros c =
     let filled : c.fill.new.self ≡ zero_page =
     c.fill.ensures.after (λ y e. e)
     ∙ ap (λ (n : ℕ). replicate n 0) c.bytes_mut.ensures.size in
-    written_over c.args.page.now c.fill.new.self (sym c.is_bad_page-bad.ensures ∙ c.if-bad.true)
+    written_over c.args.checksums c.args.block c.args.page.now c.fill.new.self (sym c.is_bad_page-bad.ensures ∙ c.if-bad.true)
     filled

@@ -1,5 +1,6 @@
 use Rattle.std.proofs.Common.{◌∙◌, List, length, rules, refl, sym, ap, arith, subst}
-use Rattle.scan_rounds.specs.ListOptions.{ListOptions}
+use Rattle.page_check.specs.declared.rules.PageRules.{PageRules}
+use Rattle.scan_rounds.specs.ListOptions.{ListOptions, list_options}
 use Rattle.scan_rounds.specs.BlockFilter.{filter_of_skipping, unskipped_entries}
 use Rattle.aioscan_cmd.specs.Command.{options_of_settings}
 use Rattle.aioscan_cmd.specs.RemainingRequests.{resolved_parts, resolved_settings}
@@ -25,7 +26,9 @@ returns-clause-lists g c =
     (ap (unskipped_parts skips) c.new-blocks.ensures.all)
     (zero_sums c.default.result c.default.ensures) c.run-lister.ensures.ran_source.source_follows
     c.run-lister.ensures.ran_source.over in
-    let options_are = ap options_of_settings c.settings-settings.ensures.settings in
+    let options_are = ap (λ (r : PageRules). list_options r c.settings-settings.result.tuples)
+    c.page_rules.ensures
+    ∙ ap options_of_settings c.settings-settings.ensures.settings in
     let Z : ListOptions → Type 0 = λ m.
     IsOutput (format_of_options m) g.W.World.told kept (g.O.Sink.written c.args.out.now)
     (g.O.Sink.written t.out.now) t.outcome listed.warnings in
@@ -59,7 +62,9 @@ returns-clause-writes g c =
 
 pub returns-clause-sums : goal.returns-clause-sums
 returns-clause-sums g c = λ done.
-    (let options_are = ap options_of_settings c.settings-settings.ensures.settings in
+    (let options_are = ap (λ (r : PageRules). list_options r c.settings-settings.result.tuples)
+    c.page_rules.ensures
+    ∙ ap options_of_settings c.settings-settings.ensures.settings in
     let skips = filter_of_skipping c.args.by_map in
     let kept = unskipped_parts skips (resolved_parts c.args.asked) in
     let sums = c.run-lister.result.sums in
@@ -71,7 +76,7 @@ returns-clause-sums g c = λ done.
     let B : List Request → Type 0 = λ l. HasSums
     (options_of_settings (resolved_settings c.args.asked)) g.W.World.told l sums in
     subst B (resolved_unskipped skips c.args.asked) (subst Z options_are
-    (summed_told (options_of_settings c.settings-settings.result) g.W.World.told kept _ _ _ sums _
+    (summed_told (list_options c.page_rules.result c.settings-settings.result.tuples) g.W.World.told kept _ _ _ sums _
     done listed.warnings_hold)))
 
 pub returns-clause-results_bound : goal.returns-clause-results_bound

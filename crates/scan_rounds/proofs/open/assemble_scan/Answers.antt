@@ -1,8 +1,10 @@
 use Rattle.std.proofs.Common.{◌-◌, ◌^◌, List, length, refl, sym, subst, ap, ◌∙◌, arith}
 use Rattle.std.specs.List.{All}
 use Rattle.std.specs.Vec.Iter.{into_iter_items}
+use Rattle.page_check.specs.declared.rules.PageRules.{PageRules}
 use Rattle.aio_handle.specs.ContractViews.{AreNewActors, ActorView}
 use Rattle.method_worker.specs.QueueViews.{IsSeatOf, SeatView}
+use Rattle.scan_rounds.specs.ListOptions.{list_options}
 use Rattle.scan_rounds.specs.Rings.{IsRingOf}
 use Rattle.scan_rounds.specs.OpenedScan.{IsDeskFor, needs_of_method}
 use Rattle.scan_rounds.specs.declared.scan.Scan.{Scan}
@@ -44,7 +46,7 @@ returns g c =
       alloc = c.args.alloc;
       room = 2 ^ 58 - 1 - c.args.start;
       unread = 0;
-      zero = c.args.settings.now.zero;
+      rules = c.page_rules.result;
       tuples = c.args.settings.now.tuples;
       opened = c.of-opened.result;
       actors = c.args.memory.lists.actors;
@@ -71,7 +73,8 @@ returns g c =
       workers_are = c.workers-workers.ensures.count ∙ c.worker_count.ensures;
       room = refl;
       unread = refl;
-      options_are = refl;
+      options_are = ap (λ (r : PageRules). list_options r c.args.settings.now.tuples)
+          c.page_rules.ensures;
       actors_fit = memory.lists.actors_fit;
       disks_fit = memory.lists.disks_fit;
     }

@@ -44,8 +44,8 @@ returns-clause-desk g c =
     ∙ ap (λ (z : StreamView (Unit {0})). z.settings) opened) in
     let same = c.desk-1.given.1 (sym name) ∙ c.end_borrow.ensures in (
       subst (λ d. IsFreeDesk d) (sym same) c.close-desk.ensures.desk.1,
-      ap (λ (d : Desk _ (Unit {0})). d.settings.zero) same
-          ∙ ap (λ (z : Settings). z.zero) settings,
+      ap (λ (d : Desk _ (Unit {0})). d.settings.rules) same
+          ∙ ap (λ (z : Settings). z.rules) settings,
     )
 
 pub returns-clause-lives_bound : goal.returns-clause-lives_bound
@@ -80,7 +80,7 @@ pub returns-clause-given : goal.returns-clause-given
 returns-clause-given g c =
     let opened = c.open-stream.ensures.stream in
     given_moved _ _ _ _ _ _ _ _ _ _ _ _ _ _ _
-    (ap (λ (z : StreamView (Unit {0})). z.settings.zero) opened)
+    (ap (λ (z : StreamView (Unit {0})). z.settings.rules) opened)
     (ap (λ (z : StreamView (Unit {0})). z.actor_was) opened)
     (ap (stream_entries c.args.blocks.relation)
     (ap (λ (z : StreamView (Unit {0})). z.blocks) opened ∙ c.new-source.ensures)

@@ -37,7 +37,7 @@ take-requires-clause-room g c =
     let many = length-map s.blocks (stream_entry c.args.relation) in
     let few = c.requires.few in
     let most = i.most in
-    next_room _ s.settings.zero g.W.World.told
+    next_room _ s.settings.rules g.W.World.told
     (MayBeUnread s.actor_was c.next-answer.new.actor.known)
     (stream_entries c.args.relation s.blocks) t.given _
     (synchronous_answer c.args.relation c.next-answer.result) (omega arith) i.so_far

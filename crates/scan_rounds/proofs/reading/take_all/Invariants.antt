@@ -18,7 +18,7 @@ invariant-loop-ending g l = record {
       (stream_view g.S.BlockSource.left l.stream);
   most : g.C.Consumer.most l.consumer ≡ g.C.Consumer.most l.fn.consumer;
   kept : g.C.Consumer.kept l.consumer ≡ g.C.Consumer.kept l.fn.consumer;
-  so_far : SoFar (g.C.Consumer.holds l.consumer) (stream_view g.S.BlockSource.left l.fn.stream).settings.zero g.W.World.told
+  so_far : SoFar (g.C.Consumer.holds l.consumer) (stream_view g.S.BlockSource.left l.fn.stream).settings.rules g.W.World.told
       (stream_entries l.relation (stream_view g.S.BlockSource.left l.fn.stream).blocks) (stream_view g.S.BlockSource.left l.stream).given;
 }
 

@@ -56,7 +56,8 @@ returns g c =
     (sym c.put.ensures) c.find-at_hand.ensures.between in
     let has : HasAnswer n.at_hand = subst (λ (z : State). HasAnswer z.at_hand)
     (sym c.put.ensures) c.find-at_hand.ensures.has_answer in
-    let says = pages_answered g.W.World.told n.scope.relation n.desk.now.reads.ended.items
+    let says = pages_answered g.W.World.told n.scope.rules.checksums n.scope.relation
+    n.desk.now.reads.ended.items
     n.desk.now.blocks.queue.items n.at_hand between.right has in
     let context = context_advanced_then c.find-at_hand.ensures.context_advanced
     (context_advanced_then c.start_last.ensures.context_advanced

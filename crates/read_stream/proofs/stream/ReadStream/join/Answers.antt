@@ -23,7 +23,7 @@ returns-in-Hit-clause-between g c =
     rw (c.wait_for.ensures.queue, c.submit.ensures.blocks.0) c.requires.front in
     found_pinned g.S.BlockSource.left g.W.World c.wait_for.new.context.actor.now.known
     n c.in-Hit.pin c.args.block c.wait_for.ensures.underway front
-    (subst (λ (z : Tag). IsGood g.W.World.told z.relation z.block (pinned_page c.in-Hit.pin))
+    (subst (λ (z : Tag). IsGood g.W.World.told z.checksums z.relation z.block (pinned_page c.in-Hit.pin))
     c.tag.ensures c.in-Hit.ensures.1)
 
 pub returns-in-Hit-clause-context_advanced : goal.returns-in-Hit-clause-context_advanced

@@ -9,5 +9,5 @@ pub returns-in-Hit-clause-between : goal.returns-in-Hit-clause-between
 returns-in-Hit-clause-between g c =
     found_pinned g.S.BlockSource.left g.W.World c.args.context.now.actor.now.known
     c.args.self.now c.in-Hit.pin c.args.block c.requires.underway c.requires.front
-    (subst (λ (z : Tag). IsGood g.W.World.told z.relation z.block (pinned_page c.in-Hit.pin))
+    (subst (λ (z : Tag). IsGood g.W.World.told z.checksums z.relation z.block (pinned_page c.in-Hit.pin))
     c.tag.ensures c.in-Hit.ensures.1)

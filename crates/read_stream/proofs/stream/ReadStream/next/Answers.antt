@@ -1,5 +1,6 @@
 use Rattle.std.proofs.Common.{◌≡◌, ℕ, true, Bool, rules, refl, sym, ap, subst, ◌∙◌}
 use Rattle.std.specs.Prelude.{IfSome}
+use Rattle.page_check.specs.declared.rules.PageRules.{PageRules}
 use Rattle.page_check.specs.PageBytes.{IsPage}
 use Rattle.page_check.specs.IsAnswer.{IfPage, Next as Said}
 use Rattle.aio_handle.specs.ContractViews.{ActorView}
@@ -30,12 +31,12 @@ returns g c =
     let answered : y ≡ x =
     ap (λ (z : ℕ). synchronous_answer z c.answer.result)
     (sym (ap (λ (z : StreamView P). z.relation) after)) ∙ c.answer.ensures.answer in
-    let zero : n.scope.zero ≡ s.desk.now.settings.zero =
-    c.advance.ensures.is_open.between.invariant.set_up.zero
-    ∙ ap (λ (z : StreamView P). z.settings.zero) after in
-    let zeroed : IfZeroed x (s.desk.now.settings.zero ≡ true) =
-    subst (λ (z : Bool). IfZeroed x (z ≡ true)) zero
-    (subst (λ (z : Said P). IfZeroed z (n.scope.zero ≡ true)) c.answer.ensures.answer
+    let zero : n.scope.rules ≡ s.desk.now.settings.rules =
+    c.advance.ensures.is_open.between.invariant.set_up.rules
+    ∙ ap (λ (z : StreamView P). z.settings.rules) after in
+    let zeroed : IfZeroed x (s.desk.now.settings.rules.zero ≡ true) =
+    subst (λ (z : PageRules). IfZeroed x (z.zero ≡ true)) zero
+    (subst (λ (z : Said P). IfZeroed z (n.scope.rules.zero ≡ true)) c.answer.ensures.answer
     c.answer.ensures.zeroed) in
     let seen : IsStreamAnswer g.W.World.told (view s) actor x =
     answer_seen g.S.BlockSource.left g.W.World s m

@@ -2,7 +2,7 @@ use Rattle.std.proofs.Common.{◌≡◌, ◌+◌, ◌-◌, ℕ, length, List, []
 use Rattle.std.specs.Prelude.{false}
 use Rattle.aio_handle.specs.ContractViews.{ActorView}
 use Rattle.read_stream.proofs.CallersView.{as_left}
-use Rattle.page_check.specs.SynchronousAnswer.{read_count, reader_of}
+use Rattle.page_check.specs.SynchronousAnswer.{read_count, reading_of}
 use Rattle.read_stream.specs.declared.desk.Desk.{Desk}
 use Rattle.read_stream.specs.declared.scope.Scope.{Scope}
 use Rattle.read_stream.specs.declared.queue.QueuedBlock.{QueuedBlock}
@@ -50,7 +50,7 @@ returns-clause-is_open g c =
       relation = c.args.relation;
       combine = d.settings.combine;
       batched = d.settings.batch;
-      zero = d.settings.zero;
+      rules = d.settings.rules;
       total = c.of-total.result;
       most = c.of-most.result;
       was = c.of.result;
@@ -65,7 +65,7 @@ returns-clause-is_open g c =
               relation_in_range = c.requires.relation;
               settings = c.requires.desk.settings;
               scope = (refl, total);
-              zero = refl;
+              rules = refl;
               queue = c.requires.desk.most_blocks;
               list_within_most = omega arith;
             };
@@ -85,7 +85,7 @@ returns-clause-is_open g c =
                 (g.S.BlockSource.left c.args.source) false n d.blocks.queue.items) (sym none)
                 (record {
                   given_within = omega arith;
-                  readable = none-given (reader_of d.settings.zero g.W.World.told)
+                  readable = none-given (reading_of d.settings.rules g.W.World.told)
                       (λ f. read_count f (stream_entries c.args.relation
                       (g.S.BlockSource.left c.of-source_was.result.value)));
                   blocks = rw (c.requires.desk.queue, c.of-source_was.ensures) refl;
