@@ -1,4 +1,5 @@
 //! A reference lister: plain and slow.
+use page_fixtures::checksums::plain_checksum;
 use std::alloc::Global;
 use std::test::Fail;
 
@@ -19,12 +20,14 @@ fn list_item(text: &mut String, item: u32, pointer: u32) -> Result<(), Fail> {
     Ok(())
 }
 
-/// Appends the text of a page, and says whether it is a valid one.
+/// Appends the text of a page, and says whether it is a valid one, by its checksum too where those
+/// are verified.
 pub fn list_page(
     text: &mut String,
     relation: usize,
     block: u32,
     page: &[u8],
+    checksums: bool,
 ) -> Result<bool, Fail> {
     if page.iter().all(|byte| *byte == 0) {
         writeln!(text, "page {relation} {block} new")?;
@@ -36,6 +39,9 @@ pub fn list_page(
         return Ok(false);
     }
     if special > 8192 || special % 8 != 0 {
+        return Ok(false);
+    }
+    if checksums && number(page, 8, 2) != u32::from(plain_checksum(page, block)) {
         return Ok(false);
     }
     let items = lower.saturating_sub(24) / 4;
@@ -55,6 +61,8 @@ pub struct RandomRequest {
     pub from: Option<u32>,
     pub to: Option<u32>,
     pub files: Vec<usize>,
+    /// Whether checksums are verified.
+    pub checksums: bool,
     /// Whether damaged pages are listed as zeros.
     pub zero: bool,
 }
@@ -65,12 +73,12 @@ fn reference_block(
     relation: usize,
     block: u32,
     page: &[u8],
-    zero: bool,
+    asked: &RandomRequest,
 ) -> Result<u8, Fail> {
-    if list_page(text, relation, block, page)? {
+    if list_page(text, relation, block, page, asked.checksums)? {
         return Ok(0);
     }
-    if !zero {
+    if !asked.zero {
         writeln!(said, "invalid page {relation} {block}")?;
         return Ok(1);
     }
@@ -96,7 +104,7 @@ fn reference_file(
         }
         let page = bytes.get(8192 * block as usize..).unwrap_or(&[]);
         let page = page.get(..8192).unwrap_or(&[]);
-        let status = reference_block((&mut *text, &mut *said), relation, block, page, asked.zero)?;
+        let status = reference_block((&mut *text, &mut *said), relation, block, page, asked)?;
         if status != 0 {
             return Ok(status);
         }

@@ -6,6 +6,7 @@
 //! |---|---|
 //! | its name | |
 //! | the files | `f:3ED` is a file `f` of three pages `E` and a page `D` |
+//! | and checksums | `f:E@25952,2E@own` gives the first page this checksum, and the others that of the block which they are in their file |
 //! | and faults | `open=2`, `length=1`, `read=3`: this call fails, of the first disk; `short=1`: its next read gives one page at most; `out=2`: this write of the output fails; `segment=4` |
 //! | the words of the line | |
 //! | the listing | `0/2` and `0/3-9` are empty pages of relation 0, `0/5=new` is a page of zeros |
@@ -15,6 +16,8 @@
 use crate::runs::{FinishedRun, check_outcome, run_segmented};
 use aio_disk::ReadEntry;
 use aioscan_cmd::Line;
+use page_check::{PAGE_SIZE, Page};
+use page_fixtures::checksums::{page_as, with_checksum};
 use page_fixtures::files::{Faults, Files};
 use page_fixtures::pages::{DAMAGED, EMPTY, FLAGGED, Parts, ZEROS, page_of};
 use std::alloc::Global;
@@ -45,10 +48,17 @@ fn page_parts(letter: u8) -> Result<Parts<'static>, Fail> {
     }
 }
 
-/// The bytes of these pages, each by its letter, with a number before it where it comes so often. A
-/// `.` is a part of a block.
-pub fn pages_file(alloc: Global, pages: &str) -> Result<Vec<u8>, Fail> {
-    let mut bytes = Vec::new(alloc);
+// A page with this checksum, or with that of the block which is next in these bytes.
+fn summed_page(parts: Parts<'_>, sum: &str, bytes: &[u8]) -> Result<Page, Fail> {
+    match sum {
+        "" => Ok(page_of(parts)),
+        "own" => Ok(page_as(parts, (bytes.len() / PAGE_SIZE).min(1000) as u32)),
+        _ => Ok(with_checksum(page_of(parts), sum.parse()?)),
+    }
+}
+
+// Appends these pages, each by its letter, with this checksum.
+fn push_pages(bytes: &mut Vec<u8>, pages: &str, sum: &str) -> Result<(), Fail> {
     let mut times = 0usize;
     for letter in pages.as_bytes() {
         if letter.is_ascii_digit() {
@@ -61,11 +71,23 @@ pub fn pages_file(alloc: Global, pages: &str) -> Result<Vec<u8>, Fail> {
             bytes.extend_from_slice(&[0; 100])?;
             continue;
         }
-        let page = page_of(page_parts(*letter)?);
+        let parts = page_parts(*letter)?;
         for _ in 0..times.max(1) {
+            let page = summed_page(parts, sum, bytes.as_slice())?;
             bytes.extend_from_slice(page.bytes())?;
         }
         times = 0;
+    }
+    Ok(())
+}
+
+/// The bytes of these pages, each by its letter, with a number before it where it comes so often. A
+/// `.` is a part of a block. Behind a `@` stands their checksum, and behind a comma are more pages.
+pub fn pages_file(alloc: Global, pages: &str) -> Result<Vec<u8>, Fail> {
+    let mut bytes = Vec::new(alloc);
+    for part in pages.split(',') {
+        let (letters, sum) = halves(part, '@');
+        push_pages(&mut bytes, letters, sum)?;
     }
     Ok(bytes)
 }

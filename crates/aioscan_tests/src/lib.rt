@@ -8,6 +8,8 @@
 #[cfg(test)]
 mod blocked_reads;
 #[cfg(test)]
+mod checksums;
+#[cfg(test)]
 mod cut_outputs;
 #[cfg(test)]
 mod failing;

@@ -2,7 +2,7 @@
 use crate::words::is_command;
 use std::test::Fail;
 
-const REFUSED: [&str; 63] = [
+const REFUSED: [&str; 69] = [
     "",
     "''",
     "f ''",
@@ -21,6 +21,12 @@ const REFUSED: [&str; 63] = [
     "f --from",
     "--from 1 --from 1 f",
     "--to=1 --to 1 f",
+    "--checksums",
+    "--checksums --checksums f",
+    "--checksums=1 f",
+    "--checksums= f",
+    "--checksums --make 3",
+    "--make 3 --tuples --checksums",
     "--combine 0 f",
     "--combine 129 f",
     "--method other f",

@@ -12,10 +12,11 @@ use std::io;
 use std::marker::Brand;
 use std::sync::Wait;
 
-/// The block that is followed.
+/// The block that is followed. Its page is checked by its header alone.
 const SEVEN: Tag = Tag {
     relation: 0,
     block: 7,
+    checksums: false,
 };
 
 /// The I/O that reads each block: handle 0 in its first life.
@@ -26,11 +27,12 @@ const READ: WaitRef = WaitRef {
 
 /// The read of a block that was begun is over, and this is its page: the pool takes a copy. It is
 /// given no page that is not valid.
+#[tactic(auto, using(crate::proofs::ValidByHeader::valid_by_header))]
 fn finish<W: World, R: Wait>(rt: &R, pool: &Pool<W>, block: u32, page: &Page)
     requires { (W.told ≡ None) × IsValid page.now }
 {
     let mut places = pool;
-    places.finish(rt, 0, block, READ, Some(page));
+    places.finish(rt, 0, block, false, READ, Some(page));
 }
 
 /// Reads 40 other blocks into the pool's 16 frames, so that each frame without a pin is taken.
@@ -38,7 +40,8 @@ fn read_others<W: World, R: Wait>(rt: &R, pool: &Pool<W>, page: &Page)
     requires { (W.told ≡ None) × (0 < W.handles) × IsValid page.now }
 {
     for block in 10..50 {
-        let _ = pool.begin(rt, Tag { relation: 0, block }, READ);
+        let tag = Tag { block, ..SEVEN };
+        let _ = pool.begin(rt, tag, READ);
         finish(rt, pool, block, page);
     }
 }

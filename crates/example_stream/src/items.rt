@@ -87,7 +87,7 @@ pub fn count_items<W: World, E: Execute<ReadIo, W>, R: Wait>(
     ensures no_owner_tokens { HasNoOwnerTokens actor.new.known }
     ensures desk { IsFreeDesk desk.new × (desk_settings desk.new ≡ desk_settings desk.old) }
     ensures told { (E.told runner.new ≡ W.told) × (E.relations runner.new ≡ W.relations) }
-    ensures counted { (end : Ending) × ItemsCounted (desk_settings desk.old).zero W.told
+    ensures counted { (end : Ending) × ItemsCounted (desk_settings desk.old).rules W.told
         (stream_entries relation (consecutive_blocks 0 blocks)) (end ∷ []) result.0 result.1 }
 {
     let mut stream = ReadStream::open(desk, pool, actor, relation, Range::new(0, blocks));

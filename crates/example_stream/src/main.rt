@@ -19,7 +19,7 @@ use aio_handle::Table;
 use block_source::Range;
 use buf_pool::Pool;
 use method_sync::{Runner, SyncMethod};
-use page_check::World;
+use page_check::{PageRules, World};
 use read_stream::{Desk, ReadStream, Settings};
 use std::io;
 use std::marker::Brand;
@@ -36,7 +36,10 @@ fn settings(full: bool) -> Settings
         full,
         batch: false,
         segment: 131072,
-        zero: false,
+        rules: PageRules {
+            checksums: false,
+            zero: false,
+        },
     }
 }
 

@@ -3,6 +3,7 @@ use crate::map_runs::HEADER;
 use crate::random_requests::{expect_outcome, line_of, pick, random_block, random_file};
 use crate::settings::random_settings;
 use aioscan_fixtures::plain_lister::{RandomRequest, list_page, reference_run};
+use page_fixtures::checksums::page_as;
 use page_fixtures::pages::{DAMAGED, Parts, ZEROS, bytes_of};
 use std::alloc::{AllocError, Global};
 use std::process::Abort;
@@ -35,7 +36,7 @@ fn range_of(asked: &RandomRequest, bytes: usize) -> (u32, u32) {
 fn reference_unmarked(
     alloc: Global,
     (from, after): (u32, u32),
-    zero: bool,
+    asked: &RandomRequest,
     contents: &[Vec<u8>],
     (page, frozen): (&[u8], bool),
 ) -> Result<(String, String, u8), Fail> {
@@ -48,7 +49,8 @@ fn reference_unmarked(
             from: Some(block),
             to: Some(block),
             files: vec![in alloc; 0usize]?,
-            zero,
+            checksums: asked.checksums,
+            zero: asked.zero,
         };
         let (listed, told, status) = reference_run(alloc, &alone, contents)?;
         text.push_str(listed.as_str())?;
@@ -61,9 +63,9 @@ fn reference_unmarked(
 }
 
 // Whether a page of a map is a valid one.
-fn is_valid(alloc: Global, page: &[u8]) -> Result<bool, Fail> {
+fn is_valid(alloc: Global, page: &[u8], checksums: bool) -> Result<bool, Fail> {
     let mut text = String::new(alloc);
-    list_page(&mut text, 1, 0, page)
+    list_page(&mut text, 1, 0, page, checksums)
 }
 
 // The same for the file `a` by the map `b`, whose first page is read where it is there and blocks
@@ -77,20 +79,21 @@ fn reference_run_by_map(
     let empty = Vec::new(alloc);
     let range = range_of(asked, contents.first().unwrap_or(&empty).len());
     let page = contents.get(1).unwrap_or(&empty).as_slice();
-    if range.0 >= range.1 || page.is_empty() || is_valid(alloc, page)? {
-        return reference_unmarked(alloc, range, asked.zero, contents, (page, frozen));
+    if range.0 >= range.1 || page.is_empty() || is_valid(alloc, page, asked.checksums)? {
+        return reference_unmarked(alloc, range, asked, contents, (page, frozen));
     }
     if !asked.zero {
         let said = String::from_str(alloc, "invalid page 1 0\n")?;
         return Ok((String::new(alloc), said, 1));
     }
-    let (text, told, status) = reference_unmarked(alloc, range, true, contents, (&[], frozen))?;
+    let (text, told, status) = reference_unmarked(alloc, range, asked, contents, (&[], frozen))?;
     let mut said = String::from_str(alloc, "zeroed page 1 0\n")?;
     said.push_str(told.as_str())?;
     Ok((text, said, status))
 }
 
-// A map without pages, one whose page is damaged or of zeros, or one with bits for eight blocks.
+// A map without pages, one whose page is damaged or of zeros, or one with bits for eight blocks,
+// mostly with its checksum.
 fn random_map(alloc: Global, state: &mut u64) -> Result<Vec<u8>, AllocError> {
     let bits = [pick(state, 256) as u8, pick(state, 256) as u8];
     let marking = [(12, HEADER), (24, bits.as_slice())];
@@ -98,7 +101,8 @@ fn random_map(alloc: Global, state: &mut u64) -> Result<Vec<u8>, AllocError> {
         0 => Ok(Vec::new(alloc)),
         1 => bytes_of(alloc, &[DAMAGED]),
         2 => bytes_of(alloc, &[ZEROS]),
-        _ => bytes_of(alloc, &[&marking]),
+        3 => bytes_of(alloc, &[&marking]),
+        _ => Vec::from_slice(alloc, page_as(&marking, 0).bytes()),
     }
 }
 
@@ -115,6 +119,7 @@ fn compare_by_map<R: Abort + AllocGlobal + Threads + Wait + Sync>(
         from: random_block(state),
         to: random_block(state),
         files: vec![in alloc; 0usize]?,
+        checksums: pick(state, 2) == 0,
         zero: pick(state, 2) == 0,
     };
     let frozen = pick(state, 2) == 0;

@@ -4,8 +4,10 @@ ghost use Rattle.std.specs.Prelude.{◌<◌};
 use crate::settings::random_settings;
 use aioscan_fixtures::plain_lister::{RandomRequest, reference_run};
 use aioscan_fixtures::runs::{TestOutcome, check_outcome, run, two_files};
+use page_check::Page;
+use page_fixtures::checksums::{EMPTY_SUMS, plain_checksum, with_checksum};
 use page_fixtures::files::STEADY;
-use page_fixtures::pages::{DAMAGED, EMPTY, Parts, ZEROS, bytes_of};
+use page_fixtures::pages::{DAMAGED, EMPTY, Parts, ZEROS, bytes_of, page_of};
 use std::alloc::{AllocError, Global};
 use std::process::Abort;
 use std::sync::Wait;
@@ -28,18 +30,43 @@ pub(crate) fn pick(state: &mut u64, limit: u64) -> u64
     (*state >> 33) % limit
 }
 
-/// A file of up to four pages, one in eight of them damaged.
+/// Its checksums as blocks 0 to 4, by the plain rule.
+const TWO_ITEMS_SUMS: [u16; 5] = [55989, 55990, 55991, 55992, 55993];
+
+// A page with its checksum as this block. One in eight has that of the next block.
+fn random_summed(parts: Parts<'_>, sums: &[u16], block: u64, state: &mut u64) -> Page {
+    let skipped = if pick(state, 8) == 0 { 1 } else { 0 };
+    let sum = sums.iter().skip(block as usize).nth(skipped);
+    with_checksum(page_of(parts), sum.copied().unwrap_or(0))
+}
+
+/// A file of up to four pages, one in eight of them damaged, and some with another checksum than
+/// they are to have.
 pub(crate) fn random_file(alloc: Global, state: &mut u64) -> Result<Vec<u8>, AllocError> {
-    let mut pages: Vec<Parts<'_>> = Vec::new(alloc);
-    for _ in 0..pick(state, 5) {
-        pages.push(match pick(state, 8) {
-            0 => DAMAGED,
-            1 | 2 => ZEROS,
-            3 | 4 => TWO_ITEMS,
-            _ => EMPTY,
-        })?;
+    let mut bytes = Vec::new(alloc);
+    for block in 0..pick(state, 5) {
+        let page = match pick(state, 8) {
+            0 => page_of(DAMAGED),
+            1 | 2 => page_of(ZEROS),
+            3 | 4 => random_summed(TWO_ITEMS, &TWO_ITEMS_SUMS, block, state),
+            _ => random_summed(EMPTY, &EMPTY_SUMS, block, state),
+        };
+        bytes.extend_from_slice(page.bytes())?;
     }
-    bytes_of(alloc, pages.as_slice())
+    Ok(bytes)
+}
+
+#[test]
+fn checksums_of_two_items(rt: HostRuntime) -> Result<(), Fail> {
+    let page = page_of(TWO_ITEMS);
+    for (block, sum) in TWO_ITEMS_SUMS.into_iter().enumerate() {
+        assert_eq!(rt;
+            plain_checksum(page.bytes(), block as u32),
+            sum,
+            "block {block}"
+        );
+    }
+    Ok(())
 }
 
 /// A block number below 5, or none.
@@ -59,6 +86,7 @@ fn random_request(alloc: Global, state: &mut u64, zero: bool) -> Result<RandomRe
         from: random_block(state),
         to: random_block(state),
         files,
+        checksums: pick(state, 2) == 0,
         zero,
     })
 }
@@ -75,6 +103,9 @@ pub(crate) fn line_of(
     }
     if let Some(block) = asked.to {
         write!(line, " --to={block}")?;
+    }
+    if asked.checksums {
+        line.push_str(" --checksums")?;
     }
     if asked.zero {
         line.push_str(" --zero-damaged")?;
@@ -158,13 +189,14 @@ pub(crate) fn check_damaged_files<R: Abort + AllocGlobal + Threads + Wait + Sync
     mut state: u64,
 ) -> Result<(), Fail> {
     let alloc = rt.alloc();
-    let asked = RandomRequest {
-        from: None,
-        to: None,
-        files: vec![in alloc; 0usize]?,
-        zero: true,
-    };
     for file in 0..500 {
+        let asked = RandomRequest {
+            from: None,
+            to: None,
+            files: vec![in alloc; 0usize]?,
+            checksums: pick(&mut state, 2) == 0,
+            zero: true,
+        };
         let bytes = damaged_file(alloc, &mut state)?;
         let again = bytes.clone()?;
         compare(rt, file, &asked, "--method sync", bytes, Vec::new(alloc))?;

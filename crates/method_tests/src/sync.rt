@@ -72,7 +72,7 @@ fn read_four<W: World, D: Disk, T: Wait>(
     ensures room { IfSome result (λ r. length r.pages ≡ length io.pages) }
 {
     laws::an_aim_names_the_read();
-    io.aim(0, first, 4, &IDS).ok()?;
+    io.aim(0, first, 4, false, &IDS).ok()?;
     let token = table.acquire(actor).ok()?;
     let token = table.define(actor, token, io);
     let token = table.stage(actor, token);

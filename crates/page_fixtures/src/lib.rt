@@ -2,5 +2,6 @@
 //! memory that tests read them from.
 #![tactic(auto)]
 
+pub mod checksums;
 pub mod files;
 pub mod pages;

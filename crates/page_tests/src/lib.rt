@@ -7,6 +7,8 @@
 #[cfg(test)]
 mod chains;
 #[cfg(test)]
+mod checksums;
+#[cfg(test)]
 mod maps;
 #[cfg(test)]
 mod pages;

@@ -1,9 +1,7 @@
 //! Ends of reads.
-ghost use Rattle.std.specs.Prelude.{◌≡◌, None, IfSome};
-ghost use Rattle.aio_callback.specs.GoodPages.{IsGood};
+ghost use Rattle.std.specs.Prelude.{◌≡◌, None};
 
-use crate::pages::{LATER, MINE, SEVEN, page_of};
-use aio_callback::Places;
+use crate::pages::{LATER, MINE, SEVEN, end_read, page_of};
 use aio_word::WaitRef;
 use buf_pool::{Begun, Look, Pool};
 use page_check::{Page, World};
@@ -14,10 +12,9 @@ use std::sync::Wait;
 
 /// Ends the reading of block 7; what the pool then has of it.
 fn end<W: World, R: Wait>(rt: &R, pool: &Pool<W>, reference: WaitRef, page: Option<&Page>) -> Look
-    requires { IfSome page (λ given. IsGood W.told 0 7 given.now) }
+    requires { W.told ≡ None }
 {
-    let mut places = pool;
-    places.finish(rt, SEVEN.relation, SEVEN.block, reference, page);
+    end_read(rt, pool, SEVEN, reference, page);
     pool.peek(rt, SEVEN)
 }
 

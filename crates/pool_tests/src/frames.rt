@@ -1,7 +1,7 @@
 //! As many reads as a pool has frames, and more pages than those.
 ghost use Rattle.std.specs.Prelude.{◌≡◌, ◌≤◌, None};
 
-use crate::pages::{LATER, MINE, SEVEN, pin_seven, visit};
+use crate::pages::{LATER, MINE, SEVEN, by_header, pin_seven, visit};
 use buf_pool::{Begun, Found, Look, Pool, Tag};
 use page_check::World;
 use std::alloc::{AllocError, Global};
@@ -34,7 +34,7 @@ fn begin_all<W: World, R: Wait>(
     let mut seen = Vec::from_elem(alloc, false, frames as usize)?;
     let mut taken = 0u32;
     for block in 0..frames {
-        if let Begun::Yes(frame) = pool.begin(rt, Tag { relation: 0, block }, MINE)
+        if let Begun::Yes(frame) = pool.begin(rt, by_header(0, block), MINE)
             && let Some(mark) = seen.get_mut(frame as usize)
             && !*mark
         {
@@ -56,10 +56,7 @@ fn fill_pool<W: World, R: Abort + AllocGlobal + Wait>(rt: &R, frames: u32) -> Re
         frames,
         "{frames} frames"
     );
-    let further = Tag {
-        relation: 0,
-        block: frames,
-    };
+    let further = by_header(0, frames);
     assert_eq!(rt;
         pool.begin(rt, further, LATER),
         Begun::NoRoom,
@@ -108,7 +105,7 @@ fn pin_and_let_go<W: World, R: Abort + AllocGlobal + Wait>(rt: &R) -> Result<(),
     read?;
     assert!(rt; pinned);
     for block in 100..116 {
-        let _ = pool.begin(rt, Tag { relation: 0, block }, MINE);
+        let _ = pool.begin(rt, by_header(0, block), MINE);
     }
     assert!(rt; !matches!(pool.peek(rt, SEVEN), Look::Hit(_)));
     Ok(())

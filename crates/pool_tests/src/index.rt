@@ -1,6 +1,7 @@
 //! An index of 16 frames, filled and emptied.
 ghost use Rattle.std.specs.Prelude.{◌≡◌, ◌+◌, ◌^◌, ◌<◌};
 
+use crate::pages::by_header;
 use aio_word::WaitRef;
 use buf_pool::{Begun, Look, PoolIndex, Tag};
 use page_check::World;
@@ -11,6 +12,7 @@ use std::process::Abort;
 const FIRST: Tag = Tag {
     relation: 0,
     block: 0,
+    checksums: false,
 };
 
 fn reference(handle: u32) -> WaitRef
@@ -28,7 +30,7 @@ fn begins_all<W: World>(index: &mut PoolIndex<W>, first: u32, count: u32) -> boo
     requires blocks { first + count < 2 ^ 32 }
 {
     for block in first..first + count {
-        let tag = Tag { relation: 0, block };
+        let tag = by_header(0, block);
         if !matches!(index.begin(tag, reference(0)), Begun::Yes(_)) {
             return false;
         }
@@ -73,10 +75,7 @@ fn first_page<W: World, R: Abort + AllocGlobal>(rt: &R) -> Result<(), AllocError
     assert_eq!(rt; index.frame(FIRST, reference(0)), Some(frame));
     assert_eq!(rt; index.end(FIRST, reference(0), true), Some(frame));
     assert_eq!(rt; index.look(FIRST), Look::Hit(frame));
-    let further = Tag {
-        relation: 1,
-        block: 0,
-    };
+    let further = by_header(1, 0);
     assert!(rt; pins_one(&mut index, frame));
     assert!(rt; begins_all(&mut index, 1, 15));
     assert_eq!(rt; index.begin(further, reference(0)), Begun::NoRoom);
@@ -97,10 +96,7 @@ fn begin_too_many<W: World, R: Abort + AllocGlobal>(rt: &R) -> Result<(), AllocE
 {
     let mut index: PoolIndex<W> = PoolIndex::open(rt.alloc(), 16)?;
     assert!(rt; begins_all(&mut index, 0, 16));
-    let further = Tag {
-        relation: 0,
-        block: 16,
-    };
+    let further = by_header(0, 16);
     assert_eq!(rt; index.begin(further, reference(1)), Begun::NoRoom);
     assert_eq!(rt; index.begin(FIRST, reference(1)), Begun::Busy(reference(0)));
     Ok(())
@@ -117,7 +113,7 @@ fn read_through<W: World, R: Abort + AllocGlobal>(rt: &R) -> Result<(), AllocErr
 {
     let mut index: PoolIndex<W> = PoolIndex::open(rt.alloc(), 16)?;
     for block in 0..40_000 {
-        let tag = Tag { relation: 3, block };
+        let tag = by_header(3, block);
         let Begun::Yes(frame) = index.begin(tag, reference(1)) else {
             panic!(rt; "block {block} has no frame")
         };
@@ -144,7 +140,7 @@ fn reads_all<W: World>(index: &mut PoolIndex<W>, handle: u32, first: u32, count:
     requires blocks { first + count < 2 ^ 32 }
 {
     for block in first..first + count {
-        let tag = Tag { relation: 0, block };
+        let tag = by_header(0, block);
         let begun = matches!(index.begin(tag, reference(handle)), Begun::Yes(_));
         if !begun || index.end(tag, reference(handle), true).is_none() {
             return false;
@@ -155,7 +151,7 @@ fn reads_all<W: World>(index: &mut PoolIndex<W>, handle: u32, first: u32, count:
 
 /// Pins the page of a block and lets it go; whether it was there.
 fn uses<W: World>(index: &mut PoolIndex<W>, block: u32) -> bool {
-    match index.look(Tag { relation: 0, block }) {
+    match index.look(by_header(0, block)) {
         Look::Hit(frame) => pins_one(index, frame) && unpins_one(index, frame),
         Look::Busy(_) | Look::Absent => false,
     }
@@ -163,7 +159,7 @@ fn uses<W: World>(index: &mut PoolIndex<W>, block: u32) -> bool {
 
 /// Whether the page of a block is there.
 fn has<W: World>(index: &PoolIndex<W>, block: u32) -> bool {
-    matches!(index.look(Tag { relation: 0, block }), Look::Hit(_))
+    matches!(index.look(by_header(0, block)), Look::Hit(_))
 }
 
 /// Whether the page of each block is there, as the rows have it.

@@ -1,23 +1,32 @@
 //! Pages that show which block they are of, and how they come into a pool.
-ghost use Rattle.std.specs.Prelude.{◌≡◌, ◌<◌, None, IfOk, IfSome};
-ghost use Rattle.page_check.specs.Verdict.{IsValid};
+ghost use Rattle.std.specs.Prelude.{◌≡◌, ◌<◌, None};
 
 use aio_callback::Places;
 use aio_word::WaitRef;
 use buf_pool::{Begun, Found, Pin, Pool, Tag};
-use page_check::{Page, Verdict, World, check, header};
+use page_check::{Page, Verdict, World, check, check_as, header};
 use std::alloc::{AllocError, Global};
 use std::sync::Wait;
 
 pub(crate) const SEVEN: Tag = Tag {
     relation: 0,
     block: 7,
+    checksums: false,
 };
 
 pub(crate) const MINE: WaitRef = WaitRef {
     handle: 1,
     generation: 0,
 };
+
+/// A block whose page is checked by its header alone.
+pub(crate) fn by_header(relation: u32, block: u32) -> Tag {
+    Tag {
+        relation,
+        block,
+        checksums: false,
+    }
+}
 
 /// The same handle in its next life.
 pub(crate) const LATER: WaitRef = WaitRef {
@@ -27,9 +36,7 @@ pub(crate) const LATER: WaitRef = WaitRef {
 
 /// An empty heap page with the block's number in the last four bytes of its header and in its last
 /// byte.
-pub(crate) fn page_of(alloc: Global, block: u8) -> Result<Option<Page>, AllocError>
-    ensures { IfOk result (λ found. IfSome found IsValid) }
-{
+pub(crate) fn page_of(alloc: Global, block: u8) -> Result<Option<Page>, AllocError> {
     let mut page = Page::zeroed(alloc)?;
     let bytes = page.bytes_mut();
     // Lower 24, upper and special 8192, page size 8192 with version 4.
@@ -49,6 +56,30 @@ pub(crate) fn page_of(alloc: Global, block: u8) -> Result<Option<Page>, AllocErr
     match check(&page) {
         Verdict::Sane => Ok(Some(page)),
         Verdict::Zero | Verdict::Bad => Ok(None),
+    }
+}
+
+/// Ends the reading of a block. A page that is not valid as this block is no page.
+pub(crate) fn end_read<W: World, R: Wait>(
+    rt: &R,
+    pool: &Pool<W>,
+    tag: Tag,
+    reference: WaitRef,
+    page: Option<&Page>,
+)
+    requires { W.told ≡ None }
+{
+    let Tag {
+        relation,
+        block,
+        checksums,
+    } = tag;
+    let mut places = pool;
+    match page {
+        Some(page) if check_as(page, block, checksums) != Verdict::Bad => {
+            places.finish(rt, relation, block, checksums, reference, Some(page));
+        }
+        _ => places.finish(rt, relation, block, checksums, reference, None),
     }
 }
 
@@ -79,10 +110,7 @@ pub(crate) fn visit<W: World, R: Wait>(
     requires told { W.told ≡ None }
     requires range { reference.handle < W.handles }
 {
-    let tag = Tag {
-        relation: 0,
-        block: u32::from(block),
-    };
+    let tag = by_header(0, u32::from(block));
     match pool.lookup(rt, tag) {
         Found::Hit(pin) => {
             let right = shows(&pin, tag);
@@ -93,8 +121,7 @@ pub(crate) fn visit<W: World, R: Wait>(
         Found::Absent => {
             if let Begun::Yes(_) = pool.begin(rt, tag, reference) {
                 let page = page_of(alloc, block)?;
-                let mut places = pool;
-                places.finish(rt, tag.relation, tag.block, reference, page.as_ref());
+                end_read(rt, pool, tag, reference, page.as_ref());
             }
             Ok(Shown::Nothing)
         }
@@ -105,13 +132,11 @@ pub(crate) fn visit<W: World, R: Wait>(
 pub(crate) fn read_into<W: World, R: Wait>(rt: &R, pool: &Pool<W>, tag: Tag, page: &Page) -> bool
     requires told { W.told ≡ None }
     requires range { 1 < W.handles }
-    requires valid { IsValid page.now }
 {
     if !matches!(pool.begin(rt, tag, MINE), Begun::Yes(_)) {
         return false;
     }
-    let mut places = pool;
-    places.finish(rt, tag.relation, tag.block, MINE, Some(page));
+    end_read(rt, pool, tag, MINE, Some(page));
     true
 }
 

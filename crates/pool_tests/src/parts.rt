@@ -1,8 +1,7 @@
 //! Pools of several parts, and pages of several relations.
 ghost use Rattle.std.specs.Prelude.{◌≡◌, ◌<◌, ◌≤◌, None};
-ghost use Rattle.page_check.specs.Verdict.{IsValid};
 
-use crate::pages::{MINE, page_of, read_into};
+use crate::pages::{MINE, by_header, page_of, read_into};
 use buf_pool::{Begun, Found, Look, Pool, Tag};
 use page_check::{Page, World};
 use std::alloc::AllocError;
@@ -34,7 +33,7 @@ fn count_there<W: World, R: Wait>(
 ) -> u32 {
     let mut there = 0u32;
     for block in blocks {
-        let tag = Tag { relation, block };
+        let tag = by_header(relation, block);
         there = there.saturating_add(u32::from(is_there(rt, pool, tag)));
     }
     there
@@ -52,13 +51,12 @@ fn fill_with<W: World, R: Wait>(
     requires told { W.told ≡ None }
     requires range { 1 < W.handles }
     requires frames { frames ≤ 16384 }
-    requires valid { IsValid page.now }
 {
     // Relation and first block are even together: the first part has the frame that is over.
     let first = relation % 2;
     let mut taken = 0u32;
     for block in first..first + frames {
-        let tag = Tag { relation, block };
+        let tag = by_header(relation, block);
         let read = read_into(rt, pool, tag, page) && is_there(rt, pool, tag);
         taken = taken.saturating_add(u32::from(read));
     }
@@ -117,7 +115,7 @@ fn read_beside<W: World, R: Abort + AllocGlobal + Wait>(
     let page = page_of(rt.alloc(), 7)?.ok_or("no sane page")?;
     let _ = fill_with(rt, &pool, 0, frames, &page);
     for block in 0..1000 {
-        let _ = read_into(rt, &pool, Tag { relation: 1, block }, &page);
+        let _ = read_into(rt, &pool, by_header(1, block), &page);
     }
     assert_eq!(rt;
         count_there(rt, &pool, 0, 0..frames),
@@ -143,7 +141,7 @@ fn fill_one_part<W: World, R: Abort + AllocGlobal + Wait>(rt: &R) -> Result<(), 
     let pool: Pool<W> = Pool::open(rt.alloc(), 32)?;
     for half in 0u32..15 {
         let block = 2 * half;
-        let _ = pool.begin(rt, Tag { relation: 0, block }, MINE);
+        let _ = pool.begin(rt, by_header(0, block), MINE);
     }
     let rows = [
         (30, Begun::Yes(15)),
@@ -151,7 +149,7 @@ fn fill_one_part<W: World, R: Abort + AllocGlobal + Wait>(rt: &R) -> Result<(), 
         (1, Begun::Yes(16)),
     ];
     for (block, wanted) in rows {
-        let begun = pool.begin(rt, Tag { relation: 0, block }, MINE);
+        let begun = pool.begin(rt, by_header(0, block), MINE);
         assert_eq!(rt; begun, wanted, "block {block}");
     }
     Ok(())

@@ -1,10 +1,8 @@
 //! Look-ups that a frame refuses, since its page is written meanwhile.
 ghost use Rattle.std.specs.Prelude.{◌≡◌, ◌<◌, None};
-ghost use Rattle.page_check.specs.Verdict.{IsValid};
 
-use crate::pages::{MINE, page_of};
-use aio_callback::Places;
-use buf_pool::{Begun, Found, Pool, Tag};
+use crate::pages::{MINE, by_header, end_read, page_of};
+use buf_pool::{Begun, Found, Pool};
 use page_check::{Page, World};
 use std::marker::Brand;
 use std::process::Abort;
@@ -21,19 +19,14 @@ const LOOK_UPS: u32 = 40_000;
 fn look_up_and_end<W: World, R: Wait>(rt: &R, pool: &Pool<W>, page: &Page)
     requires told { W.told ≡ None }
     requires range { 1 < W.handles }
-    requires valid { IsValid page.now }
 {
     for round in 0..LOOK_UPS {
-        let tag = Tag {
-            relation: 0,
-            block: round / 2 % 40,
-        };
+        let tag = by_header(0, round / 2 % 40);
         match pool.lookup(rt, tag) {
             Found::Hit(pin) => pool.unpin(rt, pin),
             Found::Busy(_) | Found::Absent => {
                 let _ = pool.begin(rt, tag, MINE);
-                let mut places = pool;
-                places.finish(rt, tag.relation, tag.block, MINE, Some(page));
+                end_read(rt, pool, tag, MINE, Some(page));
             }
         }
     }
@@ -52,14 +45,14 @@ fn begin_behind_two<W: World + Send + Sync, R: Abort + AllocGlobal + Threads + W
     thread::join(
         rt,
         move ||
-            requires { (W.told ≡ None) × (W.handles ≡ 2) × IsValid lent.now }
+            requires { (W.told ≡ None) × (W.handles ≡ 2) }
         { look_up_and_end(rt, shared, lent) },
         move ||
-            requires { (W.told ≡ None) × (W.handles ≡ 2) × IsValid lent.now }
+            requires { (W.told ≡ None) × (W.handles ≡ 2) }
         { look_up_and_end(rt, shared, lent) },
     );
     for block in 0..16 {
-        let answer = pool.begin(rt, Tag { relation: 1, block }, MINE);
+        let answer = pool.begin(rt, by_header(1, block), MINE);
         assert!(rt; matches!(answer, Begun::Yes(_)), "block {block}");
     }
     Ok(())

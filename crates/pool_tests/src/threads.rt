@@ -1,10 +1,9 @@
 //! Two threads over one pool.
 ghost use Rattle.std.specs.Prelude.{◌≡◌, ◌<◌, None};
-ghost use Rattle.page_check.specs.Verdict.{IsValid};
 
-use crate::pages::{SEVEN, Shown, page_of, pin_seven, read_into, shows, visit};
+use crate::pages::{SEVEN, Shown, by_header, page_of, pin_seven, read_into, shows, visit};
 use aio_word::WaitRef;
-use buf_pool::{Look, Pool, Tag};
+use buf_pool::{Look, Pool};
 use page_check::{Page, World};
 use std::alloc::{AllocError, Global};
 use std::marker::Brand;
@@ -58,10 +57,7 @@ fn visit_by_two<W: World + Send + Sync, R: Abort + AllocGlobal + Threads + Wait 
             requires { (W.told ≡ None) × (W.handles ≡ 2) }
         { visit_all(rt, alloc, shared, 1) },
     );
-    let last = Tag {
-        relation: 0,
-        block: 39,
-    };
+    let last = by_header(0, 39);
     assert!(rt; one? && other?);
     assert!(rt; matches!(pool.peek(rt, last), Look::Hit(_)));
     Ok(())
@@ -75,10 +71,9 @@ fn two_threads_pin_the_pages_that_they_asked_for(rt: HostRuntime) -> Result<(), 
 /// Reads 1,000 other blocks into the pool; whether each found a frame.
 fn read_others<W: World, R: Wait>(rt: &R, pool: &Pool<W>, page: &Page) -> bool
     requires told { (W.told ≡ None) × (W.handles ≡ 2) }
-    requires valid { IsValid page.now }
 {
     for block in 1000..2000 {
-        if !read_into(rt, pool, Tag { relation: 0, block }, page) {
+        if !read_into(rt, pool, by_header(0, block), page) {
             return false;
         }
     }
@@ -117,7 +112,7 @@ fn pin_while_others_are_read<
     let (read, found) = thread::join(
         rt,
         move || -> bool
-            requires { (W.told ≡ None) × (W.handles ≡ 2) × IsValid lent.now }
+            requires { (W.told ≡ None) × (W.handles ≡ 2) }
         { read_others(rt, shared, lent) },
         move || -> bool { look_at_seven(rt, shared) },
     );

@@ -1,9 +1,7 @@
 //! A read into a frame whose page is still shown by a pin.
 ghost use Rattle.std.specs.Prelude.{◌≡◌, ◌<◌, None};
-ghost use Rattle.page_check.specs.Verdict.{IsValid};
 
-use crate::pages::{MINE, SEVEN, page_of, pin_seven, read_into, shows};
-use aio_callback::Places;
+use crate::pages::{MINE, SEVEN, by_header, end_read, page_of, pin_seven, read_into, shows};
 use buf_pool::{Begun, Look, Pin, Pool, Tag};
 use page_check::{Page, World};
 use std::marker::Brand;
@@ -15,6 +13,7 @@ use std::test::Fail;
 const NEXT: Tag = Tag {
     relation: 0,
     block: 23,
+    checksums: false,
 };
 
 /// Begins 16 blocks, the last of them `NEXT`, which takes the one frame that has a page. The index
@@ -28,15 +27,13 @@ fn write_under_a_pin<W: World, R: Abort + Wait>(
 )
     requires told { W.told ≡ None }
     requires range { 1 < W.handles }
-    requires valid { IsValid page.now }
 {
     let before = pool.peek(rt, SEVEN);
     for block in 8..NEXT.block {
-        let _ = pool.begin(rt, Tag { relation: 0, block }, MINE);
+        let _ = pool.begin(rt, by_header(0, block), MINE);
     }
     let taken = pool.begin(rt, NEXT, MINE);
-    let mut places = pool;
-    places.finish(rt, NEXT.relation, NEXT.block, MINE, Some(page));
+    end_read(rt, pool, NEXT, MINE, Some(page));
     let while_pinned = pool.peek(rt, NEXT);
     let shown = shows(&pin, SEVEN);
     pool.unpin(rt, pin);

@@ -1,6 +1,6 @@
 //! The calls of a read's owner.
 ghost use Rattle.std.specs.Prelude.{◌≢◌, ◌≤◌, ◌<◌, [], ◌∷◌, List, IfSome, IsTrue, IsFalse};
-ghost use Rattle.std.specs.Prelude.{length};
+ghost use Rattle.std.specs.Prelude.{length, false};
 ghost use Rattle.aio_word.specs.declared.WaitRef.{WaitRef};
 ghost use Rattle.aio_word.specs.declared.Word.{Word};
 ghost use Rattle.aio_word.specs.Stands.{IsIn};
@@ -30,10 +30,10 @@ pub fn submit_read<W: World>(
     ensures same { IsSameActor actor.old actor.new }
     ensures submitted { IfSome result (λ t. IsSubmitted t actor.old.known actor.new.known) }
     ensures aim { IfSome result (λ t. IsIn
-        (t, record_aim (with_aim 0 block 1 (Count ∷ Buffer ∷ File ∷ []) io)) actor.new.known.aims) }
+        (t, record_aim (with_aim 0 block 1 false (Count ∷ Buffer ∷ File ∷ []) io)) actor.new.known.aims) }
 {
     let ids = [CallbackId::Count, CallbackId::Buffer, CallbackId::File];
-    if io.aim(0, block, 1, &ids).is_err() {
+    if io.aim(0, block, 1, false, &ids).is_err() {
         unreachable!()
     }
     aio_fixtures::submit_io(table, actor, io)

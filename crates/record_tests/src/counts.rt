@@ -14,8 +14,11 @@ use std::test::Fail;
 #[test]
 fn five_callbacks_are_too_many(rt: HostRuntime) -> Result<(), Fail> {
     let mut io = ReadIo::make(rt.alloc(), 5)?;
-    assert_eq!(rt; io.aim(3, 10, 4, &[Count, Buffer, File, Count]), Ok(()));
-    assert_eq!(rt; io.aim(4, 20, 5, &[File; 5]), Err(TooMany(5)));
+    assert_eq!(rt;
+        io.aim(3, 10, 4, true, &[Count, Buffer, File, Count]),
+        Ok(())
+    );
+    assert_eq!(rt; io.aim(4, 20, 5, false, &[File; 5]), Err(TooMany(5)));
     assert_eq!(rt; (io.relation(), io.first(), io.count()), (3, 10, 4));
     Ok(())
 }
@@ -29,7 +32,7 @@ fn counted<W: World, T: Wait>(
 ) -> Result<(Counts, bool), Fail>
     requires told { W.told ≡ None }
 {
-    let mut io = aimed(alloc, ids)?;
+    let mut io = aimed(alloc, ids, 10, false)?;
     completed::<W, NoPlaces, T>(rt, &mut io, Raw::Read(4), &mut NoPlaces);
     let before = io.settled();
     io.complete_local(&mut counts);

@@ -83,13 +83,14 @@ fn read_of_disk<T: Wait>(
     rt: &T,
     alloc: Global,
     first: u32,
+    checksums: bool,
     zero: bool,
 ) -> Result<(Ending, u32, Vec<(bool, bool)>), Fail>
     requires { first < 8 }
 {
     let mut disk = three_blocks(alloc)?;
     let mut io = ReadIo::make(alloc, 5)?;
-    io.aim(0, first, 4, &callbacks(zero))?;
+    io.aim(0, first, 4, checksums, &callbacks(zero))?;
     let given = read_in::<Brand, SteadyDisk, T>(rt, &mut disk, &mut io, zero);
     let mut zeroed = Vec::new(alloc);
     for index in 0..io.good() {
@@ -117,16 +118,19 @@ fn reads_of_a_disk_fit_what_it_tells(rt: HostRuntime) -> Result<(), Fail> {
         (3, true, past_end, 0, None),
     ];
     for (first, zero, result, good, page) in rows {
-        let (ending, given, zeroed) = read_of_disk(&rt, rt.alloc(), first, zero)?;
-        let wanted = Ending {
-            class: Class::Short,
-            result,
-            good,
-        };
-        assert_eq!(rt; ending, wanted, "from block {first}");
-        assert_eq!(rt; given, good, "from block {first}");
-        let marks = told_zeroed(rt.alloc(), good, page)?;
-        assert_eq!(rt; zeroed, marks, "from block {first}");
+        for checksums in [false, true] {
+            let name = format!(in rt.alloc(); "from block {first}, checksums {checksums}")?;
+            let (ending, given, zeroed) = read_of_disk(&rt, rt.alloc(), first, checksums, zero)?;
+            let wanted = Ending {
+                class: Class::Short,
+                result,
+                good,
+            };
+            assert_eq!(rt; ending, wanted, "{name}");
+            assert_eq!(rt; given, good, "{name}");
+            let marks = told_zeroed(rt.alloc(), good, page)?;
+            assert_eq!(rt; zeroed, marks, "{name}");
+        }
     }
     Ok(())
 }

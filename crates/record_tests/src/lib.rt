@@ -7,6 +7,8 @@
 #[cfg(test)]
 mod answers;
 #[cfg(test)]
+mod checksums;
+#[cfg(test)]
 mod counts;
 #[cfg(test)]
 mod disk;

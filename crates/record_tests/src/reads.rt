@@ -1,5 +1,5 @@
 //! Reads of four blocks, how they end, and what the places are told of them.
-ghost use Rattle.std.specs.Prelude.{◌≡◌, ◌≢◌, ◌<◌, false, None, IfOk, IfSome};
+ghost use Rattle.std.specs.Prelude.{◌≡◌, ◌≢◌, ◌<◌, ◌^◌, false, None, IfOk, IfSome};
 ghost use Rattle.aio_word.specs.declared.Class.TheVariants.{Unended};
 ghost use Rattle.aio_callback.specs.Chain.{IsWithin};
 ghost use Rattle.record_tests.specs.PendingReads.{IsPendingRead};
@@ -22,6 +22,7 @@ struct FinishCall {
     block: u32,
     handle: u32,
     generation: u64,
+    checksums: bool,
     has_page: bool,
 }
 
@@ -41,6 +42,7 @@ impl<W: World> Places<W> for Notes {
         _rt: &T,
         relation: u32,
         block: u32,
+        checksums: bool,
         reference: WaitRef,
         page: Option<&Page>,
     ) {
@@ -49,24 +51,31 @@ impl<W: World> Places<W> for Notes {
             block,
             handle: reference.handle,
             generation: reference.generation,
+            checksums,
             has_page: page.is_some(),
         });
     }
 }
 
-/// A record of handle 7 and generation 9 that is to read the blocks 10 to 13 of relation 3, and
-/// has room for 5.
-pub(crate) fn aimed(alloc: Global, ids: &[CallbackId]) -> Result<ReadIo, Fail>
+/// A record of handle 7 and generation 9 that is to read four blocks of relation 3, with their
+/// checksums verified or not, and has room for 5.
+pub(crate) fn aimed(
+    alloc: Global,
+    ids: &[CallbackId],
+    first: u32,
+    checksums: bool,
+) -> Result<ReadIo, Fail>
+    requires { first < 2 ^ 31 }
     ensures { IfOk result (λ r. IsPendingRead 4 r) }
 {
     let mut io = ReadIo::make(alloc, 5)?;
-    io.aim(3, 10, 4, ids)?;
+    io.aim(3, first, 4, checksums, ids)?;
     io.bind(7, 9);
     Ok(io)
 }
 
 /// Puts a page into the place of another one.
-fn place(io: &mut ReadIo, index: usize, page: &Page)
+pub(crate) fn place(io: &mut ReadIo, index: usize, page: &Page)
     requires pending { IsPendingRead 4 io.old }
     requires index { index < 4 }
     ensures { IsPendingRead 4 io.new }
@@ -132,27 +141,22 @@ pub(crate) fn is_blank(page: &Page) -> bool {
 /// What became of a read, what the places were told, and for each good page whether it was zeroed
 /// and whether it is all zeros.
 #[derive(Drop)]
-struct EndOutcome {
-    ending: Ending,
+pub(crate) struct EndOutcome {
+    pub(crate) ending: Ending,
     notes: Notes,
-    zeroed: Vec<(bool, bool)>,
+    pub(crate) zeroed: Vec<(bool, bool)>,
 }
 
-/// How a read of blocks 10 to 13 of relation 3 ends, where the page at an offset may be bad.
-fn end_of<T: Wait>(
+/// How the read of this record ends.
+pub(crate) fn outcome_of<T: Wait>(
     rt: &T,
     alloc: Global,
-    ids: &[CallbackId],
+    mut io: ReadIo,
     answer: Raw,
-    bad: Option<usize>,
 ) -> Result<EndOutcome, Fail>
+    requires pending { IsPendingRead 4 io }
     requires answer { IsWithin 4 answer }
-    requires bad { IfSome bad (λ i. i < 4) }
 {
-    let mut io = aimed(alloc, ids)?;
-    if let Some(index) = bad {
-        place(&mut io, index, &bad_page(alloc)?);
-    }
     let mut notes = Notes {
         calls: Vec::new(alloc),
     };
@@ -166,6 +170,24 @@ fn end_of<T: Wait>(
         notes,
         zeroed,
     })
+}
+
+/// How a read of blocks 10 to 13 of relation 3 ends, where the page at an offset may be bad.
+fn end_of<T: Wait>(
+    rt: &T,
+    alloc: Global,
+    ids: &[CallbackId],
+    checksums: bool,
+    case: &Case,
+) -> Result<EndOutcome, Fail>
+    requires answer { IsWithin 4 case.now.answer }
+    requires bad { IfSome case.now.bad (λ i. i < 4) }
+{
+    let mut io = aimed(alloc, ids, 10, checksums)?;
+    if let Some(index) = case.bad {
+        place(&mut io, index, &bad_page(alloc)?);
+    }
+    outcome_of(rt, alloc, io, case.answer)
 }
 
 /// A read and what becomes of it.
@@ -194,23 +216,26 @@ pub(crate) fn case_of(
     }
 }
 
-/// What the places are told where this many pages are good, and one of them may have been zeroed.
-fn told_calls(
-    alloc: Global,
-    good: u32,
-    zeroed: Option<u32>,
-) -> Result<Vec<FinishCall>, AllocError> {
-    let mut calls = Vec::new(alloc);
-    for index in 0..4 {
-        calls.push(FinishCall {
+/// Checks that the places are told of each block in rising order, and of which with its page.
+pub(crate) fn check_calls<R: Abort>(
+    rt: &R,
+    ended: &EndOutcome,
+    checksums: bool,
+    blocks: [(u32, bool); 4],
+    name: &str,
+) {
+    assert_eq!(rt; ended.notes.calls.len(), 4, "{name}");
+    for (call, (block, has_page)) in ended.notes.calls.iter().zip(blocks) {
+        let wanted = FinishCall {
             relation: 3,
-            block: 10 + index,
+            block,
             handle: 7,
             generation: 9,
-            has_page: index < good && zeroed != Some(index),
-        })?;
+            checksums,
+            has_page,
+        };
+        assert_eq!(rt; *call, wanted, "{name}");
     }
-    Ok(calls)
 }
 
 /// That of this many good pages this one alone, if any, was zeroed, and that all are zeros.
@@ -226,23 +251,43 @@ pub(crate) fn told_zeroed(
     Ok(marks)
 }
 
+// Checks one case, with checksums verified or not: its pages are zeros, which are valid in either
+// way, and one that is bad in either.
+fn check_either<R: Abort + AllocGlobal + Wait>(
+    rt: &R,
+    ids: &[CallbackId],
+    case: Case,
+    zeroed: Option<u32>,
+    checksums: bool,
+) -> Result<(), Fail> {
+    assert!(rt; matches!(case.answer, Raw::Failed | Raw::Read(0..=4)));
+    assert!(rt; case.bad.is_none_or(|index| index < 4));
+    let name = format!(in rt.alloc(); "{case:?}, checksums {checksums}")?;
+    let name = name.as_str();
+    let ended = end_of(rt, rt.alloc(), ids, checksums, &case)?;
+    let good = case.ending.good;
+    assert_eq!(rt; ended.ending, case.ending, "{name}");
+    assert_eq!(rt; case.answer.class(4), case.ending.class, "{name}");
+    let mut blocks = [(10, false), (11, false), (12, false), (13, false)];
+    for (index, place) in blocks.iter_mut().enumerate() {
+        place.1 = index < good as usize && zeroed.map(|page| page as usize) != Some(index);
+    }
+    check_calls(rt, &ended, checksums, blocks, name);
+    let marks = told_zeroed(rt.alloc(), good, zeroed)?;
+    assert_eq!(rt; ended.zeroed, marks, "{name}");
+    Ok(())
+}
+
 /// Checks how a read ends, that the places are told of each block in rising order, and which page
-/// was zeroed.
+/// was zeroed, with checksums verified and not.
 pub(crate) fn check_case<R: Abort + AllocGlobal + Wait>(
     rt: &R,
     ids: &[CallbackId],
     case: Case,
     zeroed: Option<u32>,
 ) -> Result<(), Fail> {
-    assert!(rt; matches!(case.answer, Raw::Failed | Raw::Read(0..=4)));
-    assert!(rt; case.bad.is_none_or(|index| index < 4));
-    let ended = end_of(rt, rt.alloc(), ids, case.answer, case.bad)?;
-    let good = case.ending.good;
-    assert_eq!(rt; ended.ending, case.ending, "{case:?}");
-    assert_eq!(rt; case.answer.class(4), case.ending.class, "{case:?}");
-    let calls = told_calls(rt.alloc(), good, zeroed)?;
-    let marks = told_zeroed(rt.alloc(), good, zeroed)?;
-    assert_eq!(rt; ended.notes.calls, calls, "{case:?}");
-    assert_eq!(rt; ended.zeroed, marks, "{case:?}");
+    for checksums in [false, true] {
+        check_either(rt, ids, case, zeroed, checksums)?;
+    }
     Ok(())
 }

@@ -1,13 +1,20 @@
 //! Reads that fail or are short, and damaged pages.
 
 use crate::helpers::answers::Answer;
-use crate::helpers::cases::{Blocks, CASE, Case, FULL, SETTINGS};
+use crate::helpers::cases::{BY_HEADER, Blocks, CASE, Case, FULL, SETTINGS};
 use crate::helpers::rows::{ROW, Row, check_rows};
+use page_check::PageRules;
 use page_fixtures::files::{Faults, STEADY};
 use read_stream::Settings;
 use std::test::Fail;
 
-const ZEROING: Settings = Settings { zero: true, ..FULL };
+const ZEROING: Settings = Settings {
+    rules: PageRules {
+        zero: true,
+        ..BY_HEADER
+    },
+    ..FULL
+};
 
 const DAMAGED: [Row<'static>; 6] = [
     Row {

@@ -6,9 +6,13 @@
 #![tactic(auto)]
 
 #[cfg(test)]
+mod checksums;
+#[cfg(test)]
 mod faults;
 #[cfg(test)]
 mod helpers;
+#[cfg(test)]
+mod pauses;
 #[cfg(test)]
 mod pool;
 #[cfg(test)]

@@ -5,6 +5,7 @@ use crate::helpers::answers::Answer;
 use crate::helpers::cases::{Blocks, CASE, Case};
 use crate::helpers::numbers::Numbers;
 use crate::helpers::outcomes::run;
+use crate::helpers::rows::is_damaged;
 use page_fixtures::files::{Faults, STEADY};
 use read_stream::Settings;
 use std::alloc::Global;
@@ -26,13 +27,13 @@ fn slow(
         if stop.is_none() {
             if block >= case.blocks {
                 stop = Some(Answer::PastEnd(block));
-            } else if case.damaged != Some(block) {
+            } else if !is_damaged(case, block) {
                 all.push(Answer::Page {
                     block,
                     info,
                     shown: block,
                 })?;
-            } else if case.settings.zero {
+            } else if case.settings.rules.zero {
                 all.push(Answer::Zeroed {
                     block,
                     info,
@@ -86,6 +87,8 @@ fn crosses(reads: &[(u32, u32)], segment: u32) -> bool
 struct Drawn {
     blocks: u32,
     damaged: Option<u32>,
+    wrong_checksum: Option<u32>,
+    others_verify: bool,
     list: Vec<(u32, u32)>,
     settings: Settings,
     fail_reads: Vec<(u32, u64)>,
@@ -99,15 +102,12 @@ fn draw(alloc: Global, numbers: &mut Numbers) -> Result<Drawn, Fail>
     ensures { IfOk result (λ d. 1 ≤ d.settings.segment) }
 {
     let blocks = 4 + numbers.below(9);
-    let damaged = if numbers.below(3) == 0 {
-        Some(numbers.below(blocks))
-    } else {
-        None
-    };
     let limit = blocks + numbers.below(2);
     Ok(Drawn {
         blocks,
-        damaged,
+        damaged: numbers.one_of(blocks),
+        wrong_checksum: numbers.one_of(blocks),
+        others_verify: numbers.flag(),
         list: numbers.list(alloc, 24, limit)?,
         settings: numbers.settings(),
         fail_reads: numbers.fault(alloc)?,
@@ -127,6 +127,8 @@ fn case_of(drawn: &Drawn) -> Case<'_> {
     Case {
         blocks: drawn.blocks,
         damaged: drawn.damaged,
+        wrong_checksum: drawn.wrong_checksum,
+        others_verify: drawn.others_verify,
         faults: Faults {
             reads: drawn.fail_reads.as_slice(),
             shorts: drawn.shorts.as_slice(),

@@ -24,6 +24,7 @@ pub(crate) const USUAL: ScanSettings = ScanSettings {
     batch: false,
     full: false,
     segment: 131072,
+    checksums: false,
     zero: false,
     tuples: false,
 };
@@ -62,6 +63,7 @@ pub(crate) fn is_in_range(settings: &ScanSettings) -> bool
         batch: _,
         full: _,
         segment,
+        checksums: _,
         zero: _,
         tuples: _,
     } = *settings;

@@ -12,7 +12,7 @@ use aio_handle::{Actor, Execute, Table};
 use block_source::Listed;
 use buf_pool::Pool;
 use method_worker::{QueueSeat, SubmitQueue};
-use page_check::World;
+use page_check::{PageRules, World};
 use read_stream::{Desk, Next, ReadStream, Settings};
 use std::alloc::{AllocError, Global};
 use std::sync::Wait;
@@ -24,7 +24,10 @@ const SETTINGS: Settings = Settings {
     full: false,
     batch: false,
     segment: 131072,
-    zero: false,
+    rules: PageRules {
+        checksums: false,
+        zero: false,
+    },
 };
 
 /// A block, and what is noted beside it.

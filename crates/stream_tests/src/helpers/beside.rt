@@ -17,7 +17,7 @@ use read_stream::{Desk, ReadStream};
 use std::alloc::{AllocError, Global};
 use std::sync::Wait;
 
-/// What a stream answers over the list, behind a stream over the first list. Behind its first answer
+/// What a stream answers over the list, behind a stream over the first list. Where the case pauses it
 /// the other backend reads these blocks, and submits a read of block 0, which it leaves unclaimed.
 pub(crate) fn stream_beside<W: World, E: Execute<ReadIo, W>, T: Wait>(
     rt: &T,
@@ -42,7 +42,10 @@ pub(crate) fn stream_beside<W: World, E: Execute<ReadIo, W>, T: Wait>(
 {
     let first = case.first.list(alloc)?;
     let before = first.len().min(1000) as u32;
-    stream_over(rt, alloc, case, before, pool, table, actor, runner, first)?;
+    let others = case.of_others();
+    stream_over(
+        rt, alloc, &others, before, pool, table, actor, runner, first,
+    )?;
     let mut all = Vec::new(alloc);
     let mut method = CountingSync { heard: 0 };
     let mut desk = Desk::open(alloc, &case.settings)?;
@@ -57,31 +60,31 @@ pub(crate) fn stream_beside<W: World, E: Execute<ReadIo, W>, T: Wait>(
     }
     let blocks = Listed::new(list);
     let mut stream = ReadStream::open(&mut desk, pool, actor, case.relation, blocks);
-    let one = take_answers(
+    let early = take_answers(
         rt,
         table,
         actor,
         &mut method,
         runner,
         &mut stream,
-        1,
+        case.pause,
         &mut all,
     );
     let read = read_before(rt, alloc, case, between, pool, table, other, runner);
-    let others = take_answers(
+    let later = take_answers(
         rt,
         table,
         actor,
         &mut method,
         runner,
         &mut stream,
-        calls.saturating_sub(1),
+        calls.saturating_sub(case.pause),
         &mut all,
     );
     let (taken, _) = stream.close(rt, table, actor, &mut method, runner);
-    one?;
+    early?;
     read?;
-    others?;
+    later?;
     Ok(Streamed {
         all,
         taken,

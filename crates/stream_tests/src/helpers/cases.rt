@@ -1,6 +1,8 @@
 //! What a stream reads, and how.
-ghost use Rattle.std.specs.Prelude.{◌≤◌, IsTrue};
+ghost use Rattle.std.specs.Prelude.{◌≡◌, ◌≤◌, IsTrue};
+ghost use Rattle.read_stream.specs.Desks.{AreValidSettings};
 
+use page_check::PageRules;
 use page_fixtures::files::{Faults, STEADY};
 use read_stream::Settings;
 use std::alloc::{AllocError, Global};
@@ -42,21 +44,38 @@ pub(crate) struct Case<'a> {
     /// How many blocks the file has, and which of them is damaged.
     pub blocks: u32,
     pub damaged: Option<u32>,
+    /// Which of them has a sane header, and the checksum of another block.
+    pub wrong_checksum: Option<u32>,
     pub faults: Faults<'a>,
     /// The relation that the file is, 0 or 1. The other one has a single page, which is damaged.
     pub relation: u32,
     pub handles: u32,
     pub frames: u32,
     pub settings: Settings,
+    /// Whether the earlier stream and the other backend verify checksums.
+    pub others_verify: bool,
     /// What another backend has read before it submitted a read of block 0, which nobody has
     /// claimed. Without it no other backend reads.
     pub other: Option<Blocks<'a>>,
-    /// What another backend does so once the stream has answered once.
+    /// What another backend does so once the stream has answered `pause` times.
     pub between: Option<Blocks<'a>>,
+    pub pause: u32,
     /// What an earlier stream reads.
     pub first: Blocks<'a>,
     pub list: Blocks<'a>,
 }
+
+/// Pages are checked by their header alone, and a damaged one ends the stream.
+pub(crate) const BY_HEADER: PageRules = PageRules {
+    checksums: false,
+    zero: false,
+};
+
+/// Their checksums are verified too.
+pub(crate) const VERIFIED: PageRules = PageRules {
+    checksums: true,
+    zero: false,
+};
 
 pub(crate) const SETTINGS: Settings = Settings {
     combine: 16,
@@ -65,7 +84,7 @@ pub(crate) const SETTINGS: Settings = Settings {
     full: false,
     batch: false,
     segment: 131072,
-    zero: false,
+    rules: BY_HEADER,
 };
 
 pub(crate) const FULL: Settings = Settings {
@@ -76,16 +95,43 @@ pub(crate) const FULL: Settings = Settings {
 pub(crate) const CASE: Case<'static> = Case {
     blocks: 0,
     damaged: None,
+    wrong_checksum: None,
     faults: STEADY,
     relation: 0,
     handles: 16,
     frames: 128,
     settings: SETTINGS,
+    others_verify: false,
     other: None,
     between: None,
+    pause: 1,
     first: Blocks::These(&[]),
     list: Blocks::These(&[]),
 };
+
+impl Case<'_> {
+    /// The settings of the earlier stream and of the other backend.
+    pub(crate) fn of_others(&self) -> Self
+        ensures settings { AreValidSettings self.now.settings → AreValidSettings result.settings }
+        ensures relation { result.relation ≡ self.now.relation }
+    {
+        let Case {
+            others_verify,
+            settings,
+            ..
+        } = *self;
+        Case {
+            settings: Settings {
+                rules: PageRules {
+                    checksums: others_verify,
+                    ..settings.rules
+                },
+                ..settings
+            },
+            ..*self
+        }
+    }
+}
 
 /// Whether a table, a pool and a desk may be opened so.
 pub(crate) fn is_in_range(case: &Case<'_>) -> bool

@@ -1,6 +1,7 @@
 //! Numbers that look random.
 ghost use Rattle.std.specs.Prelude.{◌<◌, ◌≤◌};
 
+use page_check::PageRules;
 use read_stream::Settings;
 use std::alloc::Global;
 use std::test::Fail;
@@ -22,8 +23,19 @@ impl Numbers {
         (self.0 >> 33) as u32 % limit
     }
 
-    fn flag(&mut self) -> bool {
+    pub(crate) fn flag(&mut self) -> bool {
         self.below(2) == 1
+    }
+
+    /// One of so many blocks, or mostly none.
+    pub(crate) fn one_of(&mut self, blocks: u32) -> Option<u32>
+        requires { 0 < blocks }
+    {
+        if self.below(3) == 0 {
+            Some(self.below(blocks))
+        } else {
+            None
+        }
     }
 
     /// The segment size that PostgreSQL has by default, or a small one.
@@ -47,7 +59,10 @@ impl Numbers {
             full: self.flag(),
             batch: self.flag(),
             segment: self.segment(),
-            zero: self.flag(),
+            rules: PageRules {
+                checksums: self.flag(),
+                zero: self.flag(),
+            },
         }
     }
 

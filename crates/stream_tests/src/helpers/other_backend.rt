@@ -17,6 +17,7 @@ use std::sync::Wait;
 fn submit_other<W: World>(
     rt: &impl Wait,
     relation: u32,
+    checksums: bool,
     pool: &Pool<W>,
     table: &Table<ReadIo, W>,
     actor: &mut Actor<ReadIo, W>,
@@ -28,12 +29,16 @@ fn submit_other<W: World>(
     requires relation { relation < W.relations }
 {
     let ids = [CallbackId::Count, CallbackId::Buffer, CallbackId::File];
-    if io.aim(relation, 0, 1, &ids).is_err() {
+    if io.aim(relation, 0, 1, checksums, &ids).is_err() {
         return;
     }
     if let Ok(token) = table.acquire(actor) {
         let token = table.define(actor, token, io);
-        let tag = Tag { relation, block: 0 };
+        let tag = Tag {
+            relation,
+            block: 0,
+            checksums,
+        };
         let _ = pool.begin(rt, tag, token.reference());
         let token = table.stage(actor, token);
         let _ = table.submit(actor, token);
@@ -62,8 +67,10 @@ pub(crate) fn read_before<W: World, E: Execute<ReadIo, W>, T: Wait>(
 {
     let list = blocks.list(alloc)?;
     let calls = list.len().min(1000) as u32;
-    stream_over(rt, alloc, case, calls, pool, table, actor, runner, list)?;
+    let others = case.of_others();
+    stream_over(rt, alloc, &others, calls, pool, table, actor, runner, list)?;
     let io = ReadIo::make(alloc, 1)?;
-    submit_other(rt, case.relation, pool, table, actor, io);
+    let verify = case.others_verify;
+    submit_other(rt, case.relation, verify, pool, table, actor, io);
     Ok(())
 }

@@ -45,13 +45,19 @@ fn call_count(row: &Row<'_>) -> u32 {
     row.calls.unwrap_or(row.pages.saturating_add(ENDINGS))
 }
 
+// Whether the stream of the case finds the block damaged.
+pub(crate) fn is_damaged(case: &Case<'_>, block: u32) -> bool {
+    let wrong = case.settings.rules.checksums && case.wrong_checksum == Some(block);
+    wrong || case.damaged == Some(block)
+}
+
 // The first pages of the list, a damaged one as zeros, and then the ending.
 fn wanted(alloc: Global, row: &Row<'_>) -> Result<Vec<Answer>, Fail> {
     let list = row.case.list.list(alloc)?;
     let mut all = Vec::new(alloc);
     for (block, info) in list.iter().take(row.pages as usize) {
         let (block, info) = (*block, *info);
-        all.push(if row.case.damaged == Some(block) {
+        all.push(if is_damaged(&row.case, block) {
             Answer::Zeroed {
                 block,
                 info,

@@ -134,7 +134,10 @@ pub(crate) fn two_streams<W: World, E: Execute<ReadIo, W>, T: Wait>(
 {
     let first = case.first.list(alloc)?;
     let before = first.len().min(1000) as u32;
-    stream_over(rt, alloc, case, before, pool, table, actor, runner, first)?;
+    let others = case.of_others();
+    stream_over(
+        rt, alloc, &others, before, pool, table, actor, runner, first,
+    )?;
     let list = case.list.list(alloc)?;
     stream_over(rt, alloc, case, calls, pool, table, actor, runner, list)
 }
