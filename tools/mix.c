@@ -3,13 +3,16 @@
 //
 // A page has 0 to 291 line pointers, 120 on average: wide, usual and narrow rows. Of 100 pages one
 // is new and three are empty. Of 100 line pointers four are dead, three redirect and three are
-// unused; of 100 tuples six were updated into the next one on their page.
+// unused; of 100 tuples six were updated into the next one on their page. Each page that is not new
+// has its checksum.
 //
 // usage: mix PAGES >FILE
 #include <stdint.h>
 #include <stdio.h>
 #include <stdlib.h>
 #include <string.h>
+
+#include "checksum.h"
 
 enum { PAGE = 8192, HEADER = 24, TUPLE_HEADER = 23 };
 
@@ -70,6 +73,7 @@ static void put_page(uint8_t *page, uint32_t block) {
   }
   put16(page + 12, HEADER + 4 * count), put16(page + 14, offset);
   put16(page + 16, PAGE), put16(page + 18, PAGE | 4);
+  put16(page + 8, checksum_of(page, block));
 }
 
 int main(int count, char **words) {

@@ -4,11 +4,14 @@
 //
 // usage: scan BLOCKS FILE..              line pointers; BLOCKS is how many one read gives at most
 //        scan --tuples BLOCKS FILE..     headers of tuples and update chains too
+//        scan --checksums BLOCKS FILE..  line pointers; a page is valid only with its checksum too
 #include <fcntl.h>
 #include <stdint.h>
 #include <stdlib.h>
 #include <string.h>
 #include <unistd.h>
+
+#include "checksum.h"
 
 enum { PAGE = 8192, HEADER = 24, TUPLE_HEADER = 23, MOST_ITEMS = 2042, FULL = 256 * 1024, ROOM = FULL + 1024 * 1024 };
 
@@ -150,7 +153,7 @@ static void put_tuples(const uint8_t *page, uint32_t block, uint32_t count) {
   *end++ = '\n';
 }
 
-static void put_page(uint32_t relation, uint32_t block, const uint8_t *page, int with_tuples) {
+static void put_page(uint32_t relation, uint32_t block, const uint8_t *page, int with_tuples, int with_checksums) {
   uint32_t flags = get16(page + 10), lower = get16(page + 12), upper = get16(page + 14), special = get16(page + 16);
   PUT_FIELD("page ", relation), PUT_FIELD(" ", block);
   if (!upper || flags > 7 || lower > upper || upper > special || special > PAGE || special % 8) {
@@ -158,6 +161,7 @@ static void put_page(uint32_t relation, uint32_t block, const uint8_t *page, int
     PUT(" new\n");
     return;
   }
+  if (with_checksums && get16(page + 8) != checksum_of(page, block)) exit(1);
   uint32_t count = lower > HEADER ? (lower - HEADER) / 4 : 0;
   PUT_FIELD(" lower ", lower), PUT_FIELD(" upper ", upper), PUT_FIELD(" special ", special), PUT_FIELD(" items ", count);
   *end++ = '\n';
@@ -170,7 +174,8 @@ static void put_page(uint32_t relation, uint32_t block, const uint8_t *page, int
 
 int main(int count, char **words) {
   int with_tuples = count > 1 && !strcmp(words[1], "--tuples");
-  words += with_tuples, count -= with_tuples;
+  int with_checksums = count > 1 && !strcmp(words[1], "--checksums");
+  words += with_tuples || with_checksums, count -= with_tuples || with_checksums;
   if (count < 2) return 2;
   size_t read_size = PAGE * strtoul(words[1], NULL, 10);
   make_numbers();
@@ -181,7 +186,7 @@ int main(int count, char **words) {
     off_t at = 0;
     for (ssize_t got; (got = pread(file, bytes, read_size, at)) >= PAGE;) {
       for (int page = 0; page < got / PAGE; page++) {
-        put_page(relation, at / PAGE + page, bytes + page * PAGE, with_tuples);
+        put_page(relation, at / PAGE + page, bytes + page * PAGE, with_tuples, with_checksums);
         if (end - text >= FULL) write_out();
       }
       at += got / PAGE * PAGE;
