@@ -6,17 +6,17 @@ use Rattle.page_check.specs.SynchronousAnswer.{found_at, zeroing}
 use Rattle.page_check.proofs.AnswersOfLists.{all_given}
 use Rattle.heap_scan.specs.Sums.{sums_joined, sums_of, no_sums}
 use Rattle.heap_scan.specs.declared.sums.PageSums.{PageSums}
-use Rattle.scan_rounds.specs.ListOptions.{ListOptions}
+use Rattle.scan_settings.specs.ListOptions.{ListOptions}
 use Rattle.scan_rounds.specs.declared.job.Ending.{Ending as JobEnding}
 use Rattle.scan_rounds.specs.declared.job.Ending.TheVariants as ending
 use Rattle.aioscan_cmd.specs.ListerState.{outcome_of_ending}
-use Rattle.aioscan_cmd.specs.Output.{ListFormat, format_of_options}
-use Rattle.aioscan_cmd.specs.RequestList.{Part, blocks_of_parts}
-use Rattle.aioscan_cmd.specs.Sums.{saturated_count, saturated_sums, HasSums, IsSummedOutput}
-use Rattle.aioscan_cmd.specs.Sums.{SumsGrew}
-use Rattle.aioscan_cmd.specs.declared.report.Outcome.{Outcome}
-use Rattle.aioscan_cmd.specs.declared.report.Outcome.TheVariants.{Done}
-use Rattle.aioscan_cmd.proofs.OutputsAppend.{lists_append, lists_more, lists_none}
+use Rattle.run_report.specs.Output.{ListFormat, format_of_options}
+use Rattle.request_list.specs.RequestList.{Part, blocks_of_parts}
+use Rattle.run_report.specs.Sums.{saturated_count, saturated_sums, HasSums, IsSummedOutput}
+use Rattle.run_report.specs.Sums.{SumsGrew}
+use Rattle.run_report.specs.declared.report.Outcome.{Outcome}
+use Rattle.run_report.specs.declared.report.Outcome.TheVariants.{Done}
+use Rattle.run_report.proofs.OutputsAppend.{lists_append, lists_more, lists_none}
 
 abbrev sums_with : ℕ → ℕ → ℕ → PageSums
 sums_with a b c = record { pages = a; zero = b; items = c }

@@ -24,17 +24,19 @@ use Rattle.scan_rounds.specs.declared.job.Ending.{Ending as JobEnding}
 use Rattle.scan_rounds.specs.declared.job.Ending.TheVariants as ending
 use Rattle.scan_rounds.specs.declared.job.Job.{Job}
 use Rattle.aio_disk.specs.Sink.{SinkGrew, SinkGrewByPrefix}
-use Rattle.aioscan_cmd.specs.RequestList.{Page, Request, blocks_of_parts, request}
-use Rattle.aioscan_cmd.specs.Outcomes.{outcome_ending, is_refused, named_block, is_output_cut_off}
-use Rattle.aioscan_cmd.specs.Output.{OutputGrew, IsOutput, WriteFaultsCounted, ListFormat}
-use Rattle.aioscan_cmd.specs.Output.{format_of_options}
-use Rattle.aioscan_cmd.specs.ListerState.{unread_count, outcome_of_ending, JobTextWritten}
-use Rattle.aioscan_cmd.specs.declared.report.Outcome.{Outcome}
-use Rattle.aioscan_cmd.specs.declared.report.Outcome.TheVariants.{CannotWrite, NoMemory}
-use Rattle.aioscan_cmd.proofs.BlocksOfOneRelation.{AreOf, job_entries_of_relation}
-use Rattle.aioscan_cmd.proofs.CutsInParts.{cut_alone}
-use Rattle.aioscan_cmd.proofs.SinkTextsAppend.{SinkGrew-same, SinkGrewByPrefix-whole}
-use Rattle.aioscan_cmd.proofs.OutputsAppend.{no_listing, no_warnings, with_blocks}
+use Rattle.request_list.specs.RequestList.{Page, Request, blocks_of_parts, request}
+use Rattle.run_report.specs.Outcomes.{outcome_ending, is_refused, named_block, is_output_cut_off}
+use Rattle.run_report.specs.Output.{OutputGrew, IsOutput, WriteFaultsCounted, ListFormat}
+use Rattle.run_report.specs.Output.{format_of_options}
+use Rattle.run_report.specs.Outcomes.{unread_count}
+use Rattle.aioscan_cmd.specs.ListerState.{outcome_of_ending, JobTextWritten}
+use Rattle.run_report.specs.declared.report.Outcome.{Outcome}
+use Rattle.run_report.specs.declared.report.Outcome.TheVariants.{CannotWrite, NoMemory}
+use Rattle.request_list.proofs.BlocksOfOneRelation.{AreOf}
+use Rattle.aioscan_cmd.proofs.UnskippedOfOneRelation.{job_entries_of_relation}
+use Rattle.run_report.proofs.CutsInParts.{cut_alone}
+use Rattle.run_report.proofs.SinkTextsAppend.{SinkGrew-same, SinkGrewByPrefix-whole}
+use Rattle.run_report.proofs.OutputsAppend.{no_listing, no_warnings, with_blocks}
 
 -- an entry of blocks of one relation
 entry_here : (r : ℕ) (blocks : List Request) → AreOf r blocks → (k b : ℕ) (e : Request)

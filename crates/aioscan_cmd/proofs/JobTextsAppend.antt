@@ -6,19 +6,19 @@ use Rattle.std.proofs.lemmas.List.{take_more, take_all, take-append-drop, map-ap
 use Rattle.std.proofs.lemmas.List.Concat.{flat_map-cons}
 use Rattle.std.proofs.lemmas.List.Sums.{sum_by-cons, get_or-le-sum_by}
 use Rattle.page_check.specs.Told.{Told}
-use Rattle.scan_rounds.specs.ListOptions.{ListOptions}
+use Rattle.scan_settings.specs.ListOptions.{ListOptions}
 use Rattle.scan_rounds.specs.Jobs.{JobIsListed, AllJobsAnswered, entries_of_job, unread_job_count}
 use Rattle.scan_rounds.specs.Jobs.{is_unread, count_unskipped}
 use Rattle.scan_rounds.specs.BlockFilter.{BlockFilter}
 use Rattle.scan_rounds.specs.declared.job.Job.{Job}
 use Rattle.heap_scan.specs.Sums.{sums_joined}
 use Rattle.heap_scan.specs.declared.sums.PageSums.{PageSums}
-use Rattle.aioscan_cmd.specs.Output.{format_of_options}
-use Rattle.aioscan_cmd.specs.Sums.{IsSummedOutput, saturated_sums}
+use Rattle.run_report.specs.Output.{format_of_options}
+use Rattle.run_report.specs.Sums.{IsSummedOutput, saturated_sums}
 use Rattle.aioscan_cmd.specs.ListerState.{unskipped_job_requests, JobTextWritten}
 use Rattle.aioscan_cmd.specs.ListerState.{unskipped_job_parts, AllJobTextsWritten}
-use Rattle.aioscan_cmd.specs.declared.report.Outcome.{Outcome}
-use Rattle.aioscan_cmd.specs.declared.report.Outcome.TheVariants.{Done}
+use Rattle.run_report.specs.declared.report.Outcome.{Outcome}
+use Rattle.run_report.specs.declared.report.Outcome.TheVariants.{Done}
 use Rattle.aioscan_cmd.proofs.JobSumsAdd.{grew_by, summed_append, summed_more, summed_none}
 use Rattle.aioscan_cmd.proofs.JobSumsAdd.{summed_same}
 

@@ -3,9 +3,9 @@ use Rattle.std.proofs.Common.{◌≡◌, ℕ, zero, suc, ◌+◌, ◌<◌, ◌�
 use Rattle.std.proofs.Common.{arith, length-append, ◌∙◌, ◌*◌, sym, ap, refl}
 use Rattle.std.specs.Prelude.{Option, Some, None, IfSome}
 use Rattle.page_check.specs.Told.{Told, relation_block_count}
-use Rattle.aioscan_cmd.specs.Command.{number_limit}
-use Rattle.aioscan_cmd.specs.Run.{limit_known}
-use Rattle.aioscan_cmd.specs.Lengths.{HasAllLengths, AreToldLengths}
+use Rattle.command_line.specs.Command.{number_limit}
+use Rattle.run_report.specs.Run.{limit_known}
+use Rattle.run_report.specs.Lengths.{HasAllLengths, AreToldLengths}
 
 fit_more : (limit : ℕ) (lengths : List ℕ) (n : ℕ) → ((r : ℕ) → get_or lengths r 0 ≤ limit)
     → n ≤ limit

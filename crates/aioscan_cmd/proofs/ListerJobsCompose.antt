@@ -4,28 +4,28 @@ use Rattle.std.proofs.Common.{append_assoc, append-nil, inl, inr, ◌⊎◌, ⊎
 use Rattle.std.specs.Prelude.{Option, None}
 use Rattle.page_check.specs.Told.{Told}
 use Rattle.aio_disk.specs.declared.sink.Sink.{Ghosts as SinkGhosts}
-use Rattle.scan_rounds.specs.ListOptions.{ListOptions}
+use Rattle.scan_settings.specs.ListOptions.{ListOptions}
 use Rattle.scan_rounds.specs.Jobs.{AllJobsAnswered}
 use Rattle.scan_rounds.specs.BlockFilter.{BlockFilter}
 use Rattle.scan_rounds.specs.declared.job.Job.{Job}
-use Rattle.aioscan_cmd.specs.RequestList.{Part}
-use Rattle.aioscan_cmd.specs.Output.{WriteFaultsCounted, format_of_options}
+use Rattle.request_list.specs.RequestList.{Part}
+use Rattle.run_report.specs.Output.{WriteFaultsCounted, format_of_options}
 use Rattle.aioscan_cmd.specs.ListerState.{AllJobTextsWritten, ListerIsOver}
 use Rattle.aioscan_cmd.specs.ListerState.{unskipped_job_parts, unskipped_parts}
 use Rattle.aioscan_cmd.specs.ListerState.{CutsOffJobs, ListerListedParts, PreservesListing}
 use Rattle.aioscan_cmd.specs.ListerState.{lister_error_stream, lister_options, lister_filter}
 use Rattle.aioscan_cmd.specs.ListerLaws.{parts_before_rest, same_errors}
-use Rattle.aioscan_cmd.specs.ErrorLine.{ErrorStream, AppendsWarnings}
+use Rattle.run_report.specs.ErrorLine.{ErrorStream, AppendsWarnings}
 use Rattle.aioscan_cmd.specs.declared.lister.Lister.{Lister}
-use Rattle.aioscan_cmd.specs.declared.report.Outcome.{Outcome}
-use Rattle.aioscan_cmd.specs.declared.report.Outcome.TheVariants.{Done}
+use Rattle.run_report.specs.declared.report.Outcome.{Outcome}
+use Rattle.run_report.specs.declared.report.Outcome.TheVariants.{Done}
 use Rattle.heap_scan.specs.Sums.{no_sums}
 use Rattle.heap_scan.specs.declared.sums.PageSums.{PageSums}
-use Rattle.aioscan_cmd.specs.Sums.{IsSummedOutput}
+use Rattle.run_report.specs.Sums.{IsSummedOutput}
 use Rattle.aioscan_cmd.proofs.JobSumsAdd.{summed_append, summed_more, summed_none}
 use Rattle.aioscan_cmd.proofs.UnskippedBlocksAppend.{unskipped_after_cut}
-use Rattle.aioscan_cmd.proofs.OutputsAppend.{written_then}
-use Rattle.aioscan_cmd.proofs.ErrorTextsAppend.{warns_also, warns_none, warns_then}
+use Rattle.run_report.proofs.OutputsAppend.{written_then}
+use Rattle.run_report.proofs.ErrorTextsAppend.{warns_also, warns_none, warns_then}
 
 is_done : (o : Outcome) → (o ≡ Done) ⊎ (o ≢ Done)
 is_done Done = inl refl

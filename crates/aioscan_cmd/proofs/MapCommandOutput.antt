@@ -9,8 +9,8 @@ use Rattle.vis_map.specs.Bits.{Map}
 use Rattle.vis_map.specs.MapRequest.{unmarked_entries}
 use Rattle.vis_map.specs.declared.map.Skip.{Skip}
 use Rattle.scan_rounds.specs.Jobs.{answered_ending, unread_ending_count}
-use Rattle.scan_rounds.specs.ListOptions.{ListOptions}
-use Rattle.scan_rounds.specs.OpenedScan.{page_rules}
+use Rattle.scan_settings.specs.ListOptions.{ListOptions}
+use Rattle.scan_settings.specs.Settings.{page_rules}
 use Rattle.scan_rounds.specs.Rounds.{MapPagesConsumed}
 use Rattle.scan_rounds.specs.BlockFilter.{BlockFilter, unskipped_entries}
 use Rattle.scan_rounds.specs.ConsumedPages.{MapHasPages, PagesConsumed}
@@ -18,24 +18,26 @@ use Rattle.scan_rounds.proofs.ReadMaps.{map_taken}
 use Rattle.scan_rounds.specs.declared.backend.Backend.{Backend}
 use Rattle.scan_rounds.specs.declared.job.Ending.{Ending as JobEnding}
 use Rattle.scan_rounds.specs.declared.job.Ending.TheVariants as ending
-use Rattle.aioscan_cmd.specs.Command.{IsMapOf, MapOption, options_of_settings}
-use Rattle.aioscan_cmd.specs.RemainingRequests.{AsksForMap, map_page_count, resolved_request_list}
-use Rattle.aioscan_cmd.specs.RemainingRequests.{resolved_parts, resolved_request_parts}
-use Rattle.aioscan_cmd.specs.RemainingRequests.{resolved_requests, resolved_settings}
+use Rattle.command_line.specs.Command.{IsMapOf, MapOption, options_of_settings}
+use Rattle.request_list.specs.RemainingRequests.{AsksForMap, map_page_count, resolved_request_list}
+use Rattle.request_list.specs.RemainingRequests.{resolved_parts, resolved_request_parts}
+use Rattle.request_list.specs.RemainingRequests.{resolved_requests, resolved_settings}
 use Rattle.aioscan_cmd.specs.ListerState.{outcome_of_ending, unskipped_parts}
-use Rattle.aioscan_cmd.specs.Output.{IsOutput, map_pages_known, command_format, format_of_options}
-use Rattle.aioscan_cmd.specs.RequestList.{Part, Request, block_range, blocks_of_parts, with_map}
-use Rattle.aioscan_cmd.specs.RequestList.{with_map_part}
-use Rattle.aioscan_cmd.specs.declared.cutter.ResolvedCommand.{ResolvedCommand}
-use Rattle.aioscan_cmd.specs.Words.{map_option_view}
-use Rattle.aioscan_cmd.specs.declared.words.map_option.MapOption.{MapOption as MapOfWords}
-use Rattle.aioscan_cmd.specs.declared.report.Outcome.{Outcome}
-use Rattle.aioscan_cmd.specs.declared.report.Outcome.TheVariants.{Done, Unread}
+use Rattle.run_report.specs.Output.{IsOutput, command_format, format_of_options}
+use Rattle.request_list.specs.RequestList.{map_pages_known}
+use Rattle.request_list.specs.RequestList.{Part, Request, block_range, blocks_of_parts, with_map}
+use Rattle.request_list.specs.RequestList.{with_map_part}
+use Rattle.request_list.specs.declared.cutter.ResolvedCommand.{ResolvedCommand}
+use Rattle.command_line.specs.Words.{map_option_view}
+use Rattle.command_line.specs.declared.words.map_option.MapOption.{MapOption as MapOfWords}
+use Rattle.run_report.specs.declared.report.Outcome.{Outcome}
+use Rattle.run_report.specs.declared.report.Outcome.TheVariants.{Done, Unread}
 use Rattle.aioscan_cmd.proofs.MapPagesThenBlocks.{added_known, map_listed, range_count}
 use Rattle.aioscan_cmd.proofs.MapPagesThenBlocks.{jobs_listed, format_with_map, whole_parts}
-use Rattle.aioscan_cmd.proofs.PartsOfRequests.{request_blocks}
-use Rattle.aioscan_cmd.proofs.OutputsAppend.{lists_append, lists_more, lists_same}
-use Rattle.aioscan_cmd.proofs.BlocksOfOneRelation.{AreOf, unskipped_of_relation}
+use Rattle.request_list.proofs.PartsOfRequests.{request_blocks}
+use Rattle.run_report.proofs.OutputsAppend.{lists_append, lists_more, lists_same}
+use Rattle.request_list.proofs.BlocksOfOneRelation.{AreOf}
+use Rattle.aioscan_cmd.proofs.UnskippedOfOneRelation.{unskipped_of_relation}
 use Rattle.aioscan_cmd.proofs.UnskippedBlocksAppend.{resolved_unskipped, unskipped_none}
 
 -- the words name a map

@@ -1,5 +1,5 @@
 -- Listing by a map: its pages, and then the blocks that it does not mark.
-use Rattle.std.proofs.Common.{◌≡◌, ℕ, zero, suc, ◌+◌, ◌≤◌, Bool, List, [], ◌∷◌, length}
+use Rattle.std.proofs.Common.{◌≡◌, ℕ, zero, suc, ◌+◌, ◌≤◌, List, [], ◌∷◌, length}
 use Rattle.std.proofs.Common.{map, take, drop, refl, sym, ap, ◌∙◌, arith, length-take}
 use Rattle.std.specs.Prelude.{Option, Some, None, slice_index_or, ⊤}
 use Rattle.std.specs.List.{range_with_len}
@@ -18,22 +18,23 @@ use Rattle.heap_tuple.specs.Listing.{text_with}
 use Rattle.vis_map.specs.Bits.{Map}
 use Rattle.vis_map.specs.MapRequest.{greatest_of, unmarked_entries, needed_pages}
 use Rattle.scan_rounds.specs.Jobs.{answered_ending}
-use Rattle.scan_rounds.specs.ListOptions.{ListOptions}
+use Rattle.scan_settings.specs.ListOptions.{ListOptions}
 use Rattle.scan_rounds.specs.ConsumedPages.{MapHasPages, PagesConsumed}
 use Rattle.scan_rounds.specs.declared.job.Ending.{Ending as JobEnding}
 use Rattle.scan_rounds.proofs.Blocks.{answer_wider}
 use Rattle.scan_rounds.proofs.JobsListed.{none_warned}
-use Rattle.aioscan_cmd.specs.Command.{MapOption}
+use Rattle.command_line.specs.Command.{MapOption}
 use Rattle.aioscan_cmd.specs.ListerState.{outcome_of_ending, unskipped_parts}
-use Rattle.aioscan_cmd.specs.Output.{IsOutput, ListFormat, map_pages_known, format_of_options}
-use Rattle.aioscan_cmd.specs.RequestList.{Page, Part, Request, block_range, blocks_of_parts}
-use Rattle.aioscan_cmd.specs.RequestList.{without_map_pages, with_map_part}
-use Rattle.aioscan_cmd.specs.declared.report.Outcome.{Outcome}
-use Rattle.aioscan_cmd.proofs.CutsInParts.{cut_in_text, stopped_by}
-use Rattle.aioscan_cmd.proofs.SinkTextsAppend.{SinkGrew-nothing, SinkGrew-same}
+use Rattle.run_report.specs.Output.{IsOutput, ListFormat, format_of_options}
+use Rattle.request_list.specs.RequestList.{map_pages_known}
+use Rattle.request_list.specs.RequestList.{Page, Part, Request, block_range, blocks_of_parts}
+use Rattle.request_list.specs.RequestList.{without_map_pages, with_map_part}
+use Rattle.run_report.specs.declared.report.Outcome.{Outcome}
+use Rattle.run_report.proofs.CutsInParts.{cut_in_text, stopped_by}
+use Rattle.run_report.proofs.SinkTextsAppend.{SinkGrew-nothing, SinkGrew-same}
 use Rattle.aioscan_cmd.proofs.JobTextOutput.{text_listed}
-use Rattle.aioscan_cmd.proofs.BlocksOfOneRelation.{AreOf, map_listing, other_listing, pages_are_of}
-use Rattle.aioscan_cmd.proofs.BlocksOfOneRelation.{range_of, some_pages_of}
+use Rattle.request_list.proofs.BlocksOfOneRelation.{AreOf, map_listing, other_listing, pages_are_of}
+use Rattle.request_list.proofs.BlocksOfOneRelation.{range_of, some_pages_of}
 
 -- the way of a command with this map
 abbrev pub format_with_map : ListOptions → Option MapOption → ListFormat

@@ -9,30 +9,30 @@ use Rattle.std.proofs.lemmas.List.Sums.{get_or-le-sum_by}
 use Rattle.page_check.specs.Told.{Told}
 use Rattle.aio_disk.specs.Counts.{RisesIfPositive, CountRose, ShelfCounts, count_plus}
 use Rattle.aio_handle.specs.Execution.{last_count}
-use Rattle.scan_rounds.specs.OpenedScan.{workers_of_method, workers_of_settings}
-use Rattle.scan_rounds.specs.declared.settings.MethodKind.{MethodKind}
-use Rattle.scan_rounds.specs.declared.settings.MethodKind.TheVariants as method
-use Rattle.scan_rounds.specs.declared.settings.ScanSettings.{ScanSettings}
-use Rattle.aioscan_cmd.specs.Command.{Command, command_relations}
-use Rattle.aioscan_cmd.specs.RemainingRequests.{resolved_request_list, resolved_request_parts}
+use Rattle.scan_settings.specs.Settings.{workers_of_method, workers_of_settings}
+use Rattle.scan_settings.specs.declared.settings.MethodKind.{MethodKind}
+use Rattle.scan_settings.specs.declared.settings.MethodKind.TheVariants as method
+use Rattle.scan_settings.specs.declared.settings.ScanSettings.{ScanSettings}
+use Rattle.command_line.specs.Command.{Command, command_relations}
+use Rattle.request_list.specs.RemainingRequests.{resolved_request_list, resolved_request_parts}
 use Rattle.aio_disk.specs.declared.disk.Disk.{Ghosts as DiskGhosts}
 use Rattle.scan_rounds.proofs.Sums.{sum-none}
 use Rattle.aioscan_cmd.specs.Disks.{IsUnreadDisk}
-use Rattle.aioscan_cmd.specs.Lengths.{HasAllLengths}
-use Rattle.aioscan_cmd.specs.Outcomes.{is_refused}
-use Rattle.aioscan_cmd.specs.Output.{WriteFaultsCounted, observed_state, command_format}
-use Rattle.aioscan_cmd.specs.Run.{IsFileRun}
-use Rattle.aioscan_cmd.specs.Causes.{ScanHasOutcome, HasCauses, CallsInOrder}
-use Rattle.aioscan_cmd.specs.Totals.{AreRunNumbers, NumbersAreReads, AreScanNumbers, no_numbers}
-use Rattle.aioscan_cmd.specs.declared.cutter.ResolvedCommand.{ResolvedCommand}
-use Rattle.aioscan_cmd.specs.declared.report.Numbers.{Numbers}
-use Rattle.aioscan_cmd.specs.declared.report.Outcome.{Outcome}
-use Rattle.aioscan_cmd.specs.declared.report.Outcome.TheVariants.{Usage, CannotOpen}
-use Rattle.aioscan_cmd.specs.declared.report.Outcome.TheVariants.{NoMemory}
-use Rattle.aioscan_cmd.proofs.ListedRuns.{ran_listed, ran_on_shelf}
-use Rattle.aioscan_cmd.proofs.RefusedRuns.{ran_without_disk}
+use Rattle.run_report.specs.Lengths.{HasAllLengths}
+use Rattle.run_report.specs.Outcomes.{is_refused}
+use Rattle.run_report.specs.Output.{WriteFaultsCounted, observed_state, command_format}
+use Rattle.run_report.specs.Run.{IsFileRun}
+use Rattle.run_report.specs.Causes.{ScanHasOutcome, HasCauses, CallsInOrder}
+use Rattle.run_report.specs.Totals.{AreRunNumbers, NumbersAreReads, AreScanNumbers, no_numbers}
+use Rattle.request_list.specs.declared.cutter.ResolvedCommand.{ResolvedCommand}
+use Rattle.run_report.specs.declared.report.Numbers.{Numbers}
+use Rattle.run_report.specs.declared.report.Outcome.{Outcome}
+use Rattle.run_report.specs.declared.report.Outcome.TheVariants.{Usage, CannotOpen}
+use Rattle.run_report.specs.declared.report.Outcome.TheVariants.{NoMemory}
+use Rattle.run_report.proofs.ListedRuns.{ran_listed, ran_on_shelf}
+use Rattle.run_report.proofs.RefusedRuns.{ran_without_disk}
 use Rattle.aioscan_cmd.proofs.DiskCountsAdd.{none_behind}
-use Rattle.aioscan_cmd.proofs.OutputsAppend.{lists_nothing}
+use Rattle.run_report.proofs.OutputsAppend.{lists_nothing}
 
 -- each is at most the sum
 each_below : {D : Type 0} (f : D → ℕ) (most : ℕ) (ds : List D) → sum_by f ds < most

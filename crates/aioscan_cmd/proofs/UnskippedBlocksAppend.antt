@@ -7,11 +7,11 @@ use Rattle.scan_rounds.specs.BlockFilter.{BlockFilter, unskipped_entries}
 use Rattle.scan_rounds.specs.declared.job.Job.{Job}
 use Rattle.aioscan_cmd.specs.ListerState.{unskipped_job_parts, unskipped_job_requests}
 use Rattle.aioscan_cmd.specs.ListerState.{unskipped_parts}
-use Rattle.aioscan_cmd.specs.RemainingRequests.{resolved_parts, resolved_requests}
-use Rattle.aioscan_cmd.specs.RequestList.{Request, Part, blocks_of_parts}
-use Rattle.aioscan_cmd.specs.declared.cutter.ResolvedCommand.{ResolvedCommand}
-use Rattle.aioscan_cmd.proofs.PartsOfRequests.{blocks-append, unmarked_blocks_of_parts}
-use Rattle.aioscan_cmd.proofs.RemainingRequestsStep.{resolved_blocks}
+use Rattle.request_list.specs.RemainingRequests.{resolved_parts, resolved_requests}
+use Rattle.request_list.specs.RequestList.{Request, Part, blocks_of_parts}
+use Rattle.request_list.specs.declared.cutter.ResolvedCommand.{ResolvedCommand}
+use Rattle.request_list.proofs.PartsOfRequests.{blocks-append, unmarked_blocks_of_parts}
+use Rattle.request_list.proofs.RemainingRequestsStep.{resolved_blocks}
 
 -- the blocks of parts without those that are left out
 pub unskipped_blocks : (skips : Option BlockFilter) (parts : List Part)

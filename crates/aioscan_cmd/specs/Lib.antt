@@ -1,17 +1,3 @@
-pub mod Grammar
-pub mod GeneratedPages
-pub mod Command
-pub mod Words
-pub mod RequestList
-pub mod Outcomes
-pub mod Output
-pub mod Run
-pub mod Causes
-pub mod ErrorLine
-pub mod Lengths
-pub mod RemainingRequests
-pub mod Sums
 pub mod ListerState
 pub mod ListerLaws
 pub mod Disks
-pub mod Totals

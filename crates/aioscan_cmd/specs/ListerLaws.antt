@@ -8,16 +8,16 @@ use Rattle.scan_rounds.specs.Jobs.{entries_of_job}
 use Rattle.scan_rounds.specs.declared.job.Job.{Job}
 use Rattle.heap_scan.specs.Sums.{no_sums}
 use Rattle.heap_scan.specs.declared.sums.PageSums.{PageSums}
-use Rattle.aioscan_cmd.specs.RequestList.{Part}
-use Rattle.aioscan_cmd.specs.Output.{WriteFaultsCounted, format_of_options}
-use Rattle.aioscan_cmd.specs.ErrorLine.{ErrorStream, AppendsWarnings, error_stream}
-use Rattle.aioscan_cmd.specs.Sums.{IsSummedOutput}
+use Rattle.request_list.specs.RequestList.{Part}
+use Rattle.run_report.specs.Output.{WriteFaultsCounted, format_of_options}
+use Rattle.run_report.specs.ErrorLine.{ErrorStream, AppendsWarnings, error_stream}
+use Rattle.run_report.specs.Sums.{IsSummedOutput}
 use Rattle.aioscan_cmd.specs.ListerState.{CutsOffJobs, PreservesListing, lister_error_stream}
 use Rattle.aioscan_cmd.specs.ListerState.{unskipped_job_parts, unskipped_parts}
 use Rattle.aioscan_cmd.specs.declared.lister.Lister.{Lister}
-use Rattle.aioscan_cmd.specs.declared.report.Line.{Line}
-use Rattle.aioscan_cmd.specs.declared.report.Outcome.{Outcome}
-use Rattle.aioscan_cmd.specs.declared.report.Outcome.TheVariants.{Done}
+use Rattle.run_report.specs.declared.report.Line.{Line}
+use Rattle.run_report.specs.declared.report.Outcome.{Outcome}
+use Rattle.run_report.specs.declared.report.Outcome.TheVariants.{Done}
 
 -- the parts of some jobs and of further ones, before what is left
 pub parts_before_rest : (asked later : List Job) (rest : List Part)

@@ -3,7 +3,7 @@ use Rattle.std.specs.Prelude.{◌≡◌, ◌≢◌, ◌⊎◌, ℕ, ◌++◌, Li
 use Rattle.std.specs.List.{flat_map}
 use Rattle.page_check.specs.Told.{Told}
 use Rattle.aio_disk.specs.declared.sink.Sink.{Ghosts as SinkGhosts}
-use Rattle.scan_rounds.specs.ListOptions.{ListOptions, list_options}
+use Rattle.scan_settings.specs.ListOptions.{ListOptions, list_options}
 use Rattle.scan_rounds.specs.Jobs.{JobIsListed, AllJobsAnswered, entries_of_job}
 use Rattle.scan_rounds.specs.BlockFilter.{BlockFilter, unskipped_entries, filter_of_skipping}
 use Rattle.scan_rounds.specs.declared.job.Ending.{Ending as JobEnding}
@@ -11,14 +11,14 @@ use Rattle.scan_rounds.specs.declared.job.Ending.TheVariants as ending
 use Rattle.scan_rounds.specs.declared.job.Job.{Job}
 use Rattle.heap_scan.specs.Sums.{no_sums}
 use Rattle.heap_scan.specs.declared.sums.PageSums.{PageSums}
-use Rattle.aioscan_cmd.specs.RequestList.{Request, Part}
-use Rattle.aioscan_cmd.specs.Output.{IsOutput, WriteFaultsCounted, format_of_options}
-use Rattle.aioscan_cmd.specs.ErrorLine.{ErrorStream, AppendsWarnings, error_stream}
-use Rattle.aioscan_cmd.specs.Sums.{IsSummedOutput}
+use Rattle.request_list.specs.RequestList.{Request, Part}
+use Rattle.run_report.specs.Output.{IsOutput, WriteFaultsCounted, format_of_options}
+use Rattle.run_report.specs.ErrorLine.{ErrorStream, AppendsWarnings, error_stream}
+use Rattle.run_report.specs.Sums.{IsSummedOutput}
 use Rattle.aioscan_cmd.specs.declared.lister.Lister.{Lister}
-use Rattle.aioscan_cmd.specs.declared.report.Outcome.{Outcome}
-use Rattle.aioscan_cmd.specs.declared.report.Outcome.TheVariants.{Done, Invalid, Unread}
-use Rattle.aioscan_cmd.specs.declared.report.Outcome.TheVariants.{NoMemory, Missing}
+use Rattle.run_report.specs.declared.report.Outcome.{Outcome}
+use Rattle.run_report.specs.declared.report.Outcome.TheVariants.{Done, Invalid, Unread}
+use Rattle.run_report.specs.declared.report.Outcome.TheVariants.{NoMemory, Missing}
 
 -- the blocks that jobs ask for, except those that are left out
 abbrev pub unskipped_job_requests : Option BlockFilter → List Job → List Request
@@ -39,11 +39,6 @@ outcome_of_ending r (ending.Invalid b) = Invalid r b
 outcome_of_ending r (ending.Unread b) = Unread r b
 outcome_of_ending r (ending.PastEnd b) = Missing r b
 outcome_of_ending r ending.NoMemory = NoMemory
-
--- 1 where the outcome names a block that was not read
-abbrev pub unread_count : Outcome → ℕ
-unread_count (Unread r b) = 1
-unread_count _ = 0
 
 -- the text of a job was written: the blocks that it was asked for were listed, with its sums and
 -- these warnings

@@ -1,33 +1,23 @@
 //! Scans generated pages, over a shelf of their own, and writes the line of their sums.
-ghost use Rattle.std.specs.Prelude.{◌≡◌, ◌≤◌, ℕ, IfOk, Some, string_bytes};
+ghost use Rattle.std.specs.Prelude.{◌≡◌, ℕ, IfOk, Some, string_bytes};
 ghost use Rattle.aio_disk.specs.Counts.{ShelfCounts};
-ghost use Rattle.aioscan_cmd.specs.Command.{AsksForGeneratedPages};
-ghost use Rattle.aioscan_cmd.specs.GeneratedPages.{generated_shelf_files, summary_line};
-ghost use Rattle.aioscan_cmd.specs.Output.{OutputGrew, WriteFaultsCounted, observed_state};
-ghost use Rattle.aioscan_cmd.specs.Run.{IsGeneratedOutcome, IsGeneratedRun};
-ghost use Rattle.aioscan_cmd.specs.ErrorLine.{AppendsWarnings, error_stream};
-ghost use Rattle.aioscan_cmd.specs.Totals.{AreRunNumbers};
+ghost use Rattle.command_line.specs.Command.{AsksForGeneratedPages};
+ghost use Rattle.run_report.specs.Run.{summary_line};
+ghost use Rattle.run_report.specs.Output.{OutputGrew, WriteFaultsCounted, observed_state};
+ghost use Rattle.run_report.specs.Run.{IsGeneratedOutcome, IsGeneratedRun};
+ghost use Rattle.run_report.specs.ErrorLine.{AppendsWarnings, error_stream};
+ghost use Rattle.run_report.specs.Totals.{AreRunNumbers};
 
-use crate::generated::make_file;
-use crate::report::RunEnd;
 use crate::scan::list_files;
-use crate::words::Command;
 use crate::{Line, Outcome};
-use aio_disk::{MemShelf, Sink, SteadyShelf, WriteFault};
+use aio_disk::{Sink, WriteFault};
+use command_line::Command;
+use generated_pages::generated_shelf;
 use heap_scan::PageSums;
+use run_report::RunEnd;
 use std::alloc::{AllocError, Global};
 use std::sync::Wait;
 use std::thread::Threads;
-
-// A shelf of so many generated pages, which has one file.
-fn generated_shelf(alloc: Global, pages: u32) -> Result<SteadyShelf, AllocError>
-    requires { pages ≤ 4096 }
-    ensures { IfOk result (λ shelf. shelf.files ≡ generated_shelf_files pages) }
-{
-    let mut files = Vec::with_capacity(alloc, 1)?;
-    files.push((String::from_str(alloc, "made")?, make_file(alloc, pages)?))?;
-    MemShelf::steady(alloc, files, 0)
-}
 
 /// A sink that keeps nothing: the texts of generated pages are not written.
 #[derive(Drop)]

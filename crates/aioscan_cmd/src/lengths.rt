@@ -1,7 +1,7 @@
 //! The lengths of the relations, taken before any block is read.
 ghost use Rattle.std.specs.Prelude.{◌≡◌, ◌<◌, ◌≤◌, ℕ, IsErrOf, MatchResult};
 ghost use Rattle.aio_disk.specs.Counts.{CountRose};
-ghost use Rattle.aioscan_cmd.specs.Lengths.{HasAllLengths, LengthsFailed};
+ghost use Rattle.run_report.specs.Lengths.{HasAllLengths, LengthsFailed};
 
 use crate::Outcome;
 use aio_disk::Disk;

@@ -11,21 +11,15 @@
 #![tactic(auto)]
 
 mod by_map;
-mod cutter;
 mod disks;
-mod error_line;
-mod generated;
 mod generated_scan;
 mod lengths;
 mod list_jobs;
 mod lister;
 pub mod program;
-mod relations;
-mod report;
 mod run;
 mod scan;
-mod words;
 
-pub use report::{Line, Outcome, Report};
+pub use command_line::{Command, MapOption, Refusal, read_command};
 pub use run::aioscan;
-pub use words::{Command, MapOption, Refusal, read_command};
+pub use run_report::{Line, Outcome, Report};

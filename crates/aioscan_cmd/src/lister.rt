@@ -3,23 +3,24 @@ ghost use Rattle.std.specs.Prelude.{◌≡◌, ◌≢◌, ◌≤◌, ◌++◌, �
 ghost use Rattle.std.specs.Prelude.{IsErrOf, OnErr};
 ghost use Rattle.std.specs.List.{All};
 ghost use Rattle.scan_rounds.specs.Jobs.{IsNewJob, unread_job_count};
-ghost use Rattle.aioscan_cmd.specs.Output.{WriteFaultsCounted};
-ghost use Rattle.aioscan_cmd.specs.ListerState.{unskipped_job_parts, unread_count};
+ghost use Rattle.run_report.specs.Output.{WriteFaultsCounted};
+ghost use Rattle.aioscan_cmd.specs.ListerState.{unskipped_job_parts};
+ghost use Rattle.run_report.specs.Outcomes.{unread_count};
 ghost use Rattle.aioscan_cmd.specs.ListerState.{outcome_of_ending};
 ghost use Rattle.aioscan_cmd.specs.ListerState.{JobTextWritten, AllJobTextsWritten};
-ghost use Rattle.aioscan_cmd.specs.ErrorLine.{AppendsErrorText, AppendsWarnings, error_stream};
+ghost use Rattle.run_report.specs.ErrorLine.{AppendsErrorText, AppendsWarnings, error_stream};
 ghost use Rattle.aio_disk.specs.Counts.{CountRose};
 ghost use Rattle.aio_disk.specs.Sink.{SinkTakes};
 ghost use Rattle.aio_disk.specs.declared.fault.WriteFault.TheVariants.{Device};
-ghost use Rattle.aioscan_cmd.specs.Sums.{saturated_sums};
+ghost use Rattle.run_report.specs.Sums.{saturated_sums};
 ghost use Rattle.heap_scan.specs.Sums.{sums_joined};
 
-use crate::cutter::Cutter;
-use crate::error_line::write_warnings;
 use crate::{Line, Outcome};
 use aio_disk::{Sink, WriteFault};
 use heap_scan::PageSums;
 use page_check::{PageRules, World};
+use request_list::Cutter;
+use run_report::write_warnings;
 use scan_rounds::{Ending, Job, JobSource, MapFilter};
 
 /// What a run has still to list, and where to.
@@ -156,8 +157,9 @@ impl<'a, 'e, 'm, 'w, W: World, O: Sink, E: Sink> JobSource<W> for Lister<'a, 'e,
     ghost use Rattle.std.specs.Prelude.{length};
     ghost use Rattle.std.proofs.Common.{refl, ◌∙◌};
     ghost use Rattle.scan_rounds.specs.BlockFilter.{unskipped_entries};
-    ghost use Rattle.aioscan_cmd.specs.RequestList.{blocks_of_parts};
-    ghost use Rattle.aioscan_cmd.specs.ListerState.{unread_count, lister_options, lister_filter};
+    ghost use Rattle.request_list.specs.RequestList.{blocks_of_parts};
+    ghost use Rattle.run_report.specs.Outcomes.{unread_count};
+    ghost use Rattle.aioscan_cmd.specs.ListerState.{lister_options, lister_filter};
     ghost use Rattle.aioscan_cmd.specs.ListerState.{ListerIsOver, CutsOffJobs, PreservesListing};
     ghost use Rattle.aioscan_cmd.specs.ListerLaws.{cuts_then, none_put};
 

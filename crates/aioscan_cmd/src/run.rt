@@ -1,23 +1,22 @@
 //! The top call.
 ghost use Rattle.std.specs.Prelude.{◌≡◌, ◌≢◌, ◌<◌, ◌≤◌, ◌⊎◌, ℕ, List, map, None, Some};
 ghost use Rattle.std.specs.Prelude.{true, string_bytes};
-ghost use Rattle.aioscan_cmd.specs.Words.{command_of};
-ghost use Rattle.aioscan_cmd.specs.Outcomes.{status_of, is_refused};
-ghost use Rattle.aioscan_cmd.specs.Output.{observed_state};
-ghost use Rattle.aioscan_cmd.specs.Run.{IsCommandRun, HoldsForRun, CommandFilesExist, RunWrites};
-ghost use Rattle.aioscan_cmd.specs.Causes.{HasCauses, CallsInOrder, NamesFirstTooLong, IsComplete};
-ghost use Rattle.aioscan_cmd.specs.Causes.{DisksWereOpened};
-ghost use Rattle.aioscan_cmd.specs.ErrorLine.{IsErrorOutput, AppendsWarnings, error_stream};
-ghost use Rattle.aioscan_cmd.specs.ErrorLine.{shows_totals};
-ghost use Rattle.aioscan_cmd.specs.Totals.{AreRunNumbers, generated_page_count, report_numbers};
+ghost use Rattle.command_line.specs.Words.{command_of};
+ghost use Rattle.run_report.specs.Outcomes.{status_of, is_refused};
+ghost use Rattle.run_report.specs.Output.{observed_state};
+ghost use Rattle.run_report.specs.Run.{IsCommandRun, HoldsForRun, CommandFilesExist, RunWrites};
+ghost use Rattle.run_report.specs.Causes.{HasCauses, CallsInOrder, NamesFirstTooLong, IsComplete};
+ghost use Rattle.run_report.specs.Causes.{DisksWereOpened};
+ghost use Rattle.run_report.specs.ErrorLine.{IsErrorOutput, AppendsWarnings, error_stream};
+ghost use Rattle.run_report.specs.ErrorLine.{shows_totals};
+ghost use Rattle.run_report.specs.Totals.{AreRunNumbers, generated_page_count, report_numbers};
 
-use crate::error_line::write_end;
 use crate::generated_scan::list_generated;
-use crate::report::{ReportedEnd, RunEnd, has_totals};
 use crate::scan::list_files;
-use crate::words::{Command, Refusal, read_command};
 use crate::{Line, Outcome, Report};
 use aio_disk::{Shelf, Sink};
+use command_line::{Command, Refusal, read_command};
+use run_report::{ReportedEnd, RunEnd, has_totals, write_end};
 use std::alloc::Global;
 use std::sync::Wait;
 use std::thread::Threads;

@@ -1,7 +1,7 @@
 //! Words that are a command, and what they ask for.
 use aioscan_cmd::{Command, Refusal, read_command};
 use aioscan_fixtures::runs::words_of;
-use scan_rounds::ScanSettings;
+use scan_settings::ScanSettings;
 use std::alloc::Global;
 use std::process::Abort;
 use std::test::Fail;

@@ -13,7 +13,7 @@ use Rattle.method_worker.specs.QueueViews.{QueueView}
 use Rattle.aio_disk.specs.declared.disk.Disk.{Ghosts as DiskGhosts}
 use Rattle.scan_rounds.specs.DiskActors.{IsBackend, IsDiskActor, DiskActorAdvanced, BackendAdvanced}
 use Rattle.scan_rounds.specs.DiskActors.{backend_options}
-use Rattle.scan_rounds.specs.ListOptions.{ListOptions}
+use Rattle.scan_settings.specs.ListOptions.{ListOptions}
 use Rattle.scan_rounds.specs.Rounds.{AllHaveOptions, IsLeastRoom, backend_disk_actor}
 use Rattle.scan_rounds.specs.declared.disk_actor.DiskActor.{DiskActor}
 use Rattle.scan_rounds.specs.declared.backend.Backend.{Backend}

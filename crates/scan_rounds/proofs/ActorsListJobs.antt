@@ -28,7 +28,7 @@ use Rattle.scan_rounds.specs.DiskActors.{entries_of_blocks}
 use Rattle.scan_rounds.specs.Jobs.{JobIsListed, JobOutline, answered_ending}
 use Rattle.scan_rounds.specs.Jobs.{ended_jobs, entries_of_job, entries_of_jobs, is_unread}
 use Rattle.scan_rounds.specs.Jobs.{IsNewJob, count_unskipped, job_outline}
-use Rattle.scan_rounds.specs.ListOptions.{list_options}
+use Rattle.scan_settings.specs.ListOptions.{list_options}
 use Rattle.scan_rounds.specs.declared.backend.Backend.{Backend}
 use Rattle.scan_rounds.specs.declared.disk_actor.DiskActor.{DiskActor}
 use Rattle.scan_rounds.specs.declared.source.Blocks.{Blocks}

@@ -10,10 +10,12 @@ use Rattle.aio_word.specs.declared.Config.{Config}
 use Rattle.aio_handle.specs.ContractViews.{AreNewActors}
 use Rattle.method_worker.specs.QueueViews.{IsSeatOf}
 use Rattle.aio_disk.specs.declared.disk.Disk.{Ghosts as DiskGhosts}
-use Rattle.scan_rounds.specs.ListOptions.{list_options}
-use Rattle.scan_rounds.specs.OpenedScan.{AreValidScanSettings, GivesBackends, GivesWorkers}
-use Rattle.scan_rounds.specs.OpenedScan.{IsDeskFor, IsOpenedScan, config_of, needs_of_method}
-use Rattle.scan_rounds.specs.OpenedScan.{page_rules, rings_of_settings, seats_of_settings, workers_of_settings}
+use Rattle.scan_settings.specs.ListOptions.{list_options}
+use Rattle.scan_settings.specs.Settings.{AreValidScanSettings}
+use Rattle.scan_rounds.specs.OpenedScan.{GivesBackends, GivesWorkers}
+use Rattle.scan_rounds.specs.OpenedScan.{IsDeskFor, IsOpenedScan, config_of}
+use Rattle.scan_settings.specs.Settings.{needs_of_method}
+use Rattle.scan_settings.specs.Settings.{page_rules, rings_of_settings, seats_of_settings, workers_of_settings}
 use Rattle.scan_rounds.specs.Rings.{IsRingOf}
 use Rattle.scan_rounds.specs.Rounds.{IsLeastRoom}
 use Rattle.scan_rounds.specs.Scans.{IsScan, scan_options, opened_disks}
@@ -21,7 +23,7 @@ use Rattle.scan_rounds.specs.declared.backend.Backend.{Backend}
 use Rattle.scan_rounds.specs.declared.open.Parts.{Parts}
 use Rattle.scan_rounds.specs.declared.worker.Worker.{Worker}
 use Rattle.scan_rounds.specs.declared.scan.Scan.{Scan}
-use Rattle.scan_rounds.specs.declared.settings.ScanSettings.{ScanSettings}
+use Rattle.scan_settings.specs.declared.settings.ScanSettings.{ScanSettings}
 use Rattle.scan_rounds.proofs.PartsGiven.{all_at, some_at, behind, disk_actor_behind}
 use Rattle.scan_rounds.proofs.NewDiskActors.{AreNewDiskActors, new_disk_actor, rooms_of_new}
 use Rattle.scan_rounds.proofs.NewDiskActors.{none_taken, paid_of_new, backends_of_new}

@@ -22,7 +22,7 @@ use Rattle.scan_rounds.specs.Exchanges.{ShareHasRoom, ShareStandsIn, SharesAdvan
 use Rattle.scan_rounds.specs.Exchanges.{failed_results_of_share, jobs_of_shares}
 use Rattle.scan_rounds.specs.Exchanges.{results_of_share}
 use Rattle.scan_rounds.specs.Jobs.{IsNewJob, count_unskipped}
-use Rattle.scan_rounds.specs.ListOptions.{ListOptions}
+use Rattle.scan_settings.specs.ListOptions.{ListOptions}
 use Rattle.scan_rounds.specs.Progress.{IsClosedByFirst}
 use Rattle.scan_rounds.specs.Rounds.{AllBackendsHaveRoom, AllHaveOptions, backend_disk_actor}
 use Rattle.scan_rounds.specs.Rounds.{failed_results_taken, results_taken_count}

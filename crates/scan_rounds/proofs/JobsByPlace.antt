@@ -14,7 +14,7 @@ use Rattle.aio_disk.specs.declared.disk.Disk.{Ghosts as DiskGhosts}
 use Rattle.scan_rounds.specs.DiskActors.{ActorHasRoom, BackendAdvanced, BackendListed, BackendMayList}
 use Rattle.scan_rounds.specs.DiskActors.{IsBackend, backend_options}
 use Rattle.scan_rounds.specs.Jobs.{IsNewJob, JobIsListed, entries_of_job, is_unread}
-use Rattle.scan_rounds.specs.ListOptions.{ListOptions}
+use Rattle.scan_settings.specs.ListOptions.{ListOptions}
 use Rattle.scan_rounds.specs.BlockFilter.{BlockFilter}
 use Rattle.scan_rounds.specs.Rounds.{RoundListed, RoundMayBeListed}
 use Rattle.scan_rounds.specs.declared.backend.Backend.{Backend}

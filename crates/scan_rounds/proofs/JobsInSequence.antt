@@ -15,7 +15,7 @@ use Rattle.aio_disk.specs.declared.disk.Disk.{Ghosts as DiskGhosts}
 use Rattle.scan_rounds.specs.DiskActors.{BackendListed, BackendMayList, IsBackend}
 use Rattle.scan_rounds.specs.Jobs.{IsNewJob, JobIsListed, entries_of_job, is_unread}
 use Rattle.scan_rounds.specs.Jobs.{job_block_count}
-use Rattle.scan_rounds.specs.ListOptions.{ListOptions}
+use Rattle.scan_settings.specs.ListOptions.{ListOptions}
 use Rattle.scan_rounds.specs.BlockFilter.{BlockFilter}
 use Rattle.scan_rounds.specs.declared.backend.Backend.{Backend}
 use Rattle.scan_rounds.specs.declared.job.Job.{Job}

@@ -23,7 +23,7 @@ use Rattle.scan_rounds.specs.ConsumedPages.{JobHasOutput, JobsHaveOutput}
 use Rattle.scan_rounds.specs.Jobs.{AreWholeButLast, JobIsListed, JobOutline, answered_ending}
 use Rattle.scan_rounds.specs.Jobs.{ended_job, ended_jobs, entries_of_job, entries_of_jobs, is_unread}
 use Rattle.scan_rounds.specs.Jobs.{IsNewJob, job_outline, unread_job_count}
-use Rattle.scan_rounds.specs.ListOptions.{ListOptions}
+use Rattle.scan_settings.specs.ListOptions.{ListOptions}
 use Rattle.scan_rounds.specs.declared.job.Ending.{Ending}
 use Rattle.scan_rounds.specs.declared.job.Ending.TheVariants as ending
 use Rattle.scan_rounds.specs.declared.job.Job.{Job}

@@ -9,7 +9,7 @@ use Rattle.heap_tuple.specs.Listing.{text_with}
 use Rattle.scan_rounds.specs.BlockFilter.{BlockFilter}
 use Rattle.scan_rounds.specs.Jobs.{AllJobsAnswered, IsNewJob}
 use Rattle.scan_rounds.specs.Jobs.{unread_job_count, ended_job}
-use Rattle.scan_rounds.specs.ListOptions.{ListOptions}
+use Rattle.scan_settings.specs.ListOptions.{ListOptions}
 use Rattle.scan_rounds.specs.declared.job.Ending.TheVariants as ending
 use Rattle.scan_rounds.specs.declared.job.Job.{Job}
 use Rattle.scan_rounds.specs.declared.job_source.JobSource.{Ghosts as JobSourceGhosts}

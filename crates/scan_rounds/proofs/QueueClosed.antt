@@ -14,7 +14,7 @@ use Rattle.aio_disk.specs.declared.disk.Disk.{Ghosts as DiskGhosts}
 use Rattle.scan_rounds.specs.BlockFilter.{BlockFilter}
 use Rattle.scan_rounds.specs.DiskActors.{ActorHasRoom, IsBackend, backend_options}
 use Rattle.scan_rounds.specs.Jobs.{JobIsListed}
-use Rattle.scan_rounds.specs.ListOptions.{ListOptions, list_options}
+use Rattle.scan_settings.specs.ListOptions.{ListOptions, list_options}
 use Rattle.scan_rounds.specs.Rounds.{AllHaveOptions, AllJobsListed, IsLeastRoom, backend_disk_actor}
 use Rattle.read_stream.specs.declared.desk.Desk.{Desk}
 use Rattle.scan_rounds.specs.declared.backend.Backend.{Backend}

@@ -13,7 +13,7 @@ use Rattle.page_check.specs.Told.{Told}
 use Rattle.page_check.specs.SynchronousAnswer.{reading_of}
 use Rattle.heap_scan.specs.Job.{job_entries}
 use Rattle.scan_rounds.specs.Jobs.{answered_ending}
-use Rattle.scan_rounds.specs.ListOptions.{ListOptions}
+use Rattle.scan_settings.specs.ListOptions.{ListOptions}
 use Rattle.scan_rounds.specs.Rounds.{MapPagesConsumed}
 use Rattle.scan_rounds.specs.declared.backend.Backend.{Backend}
 use Rattle.scan_rounds.specs.declared.job.Ending.{Ending}

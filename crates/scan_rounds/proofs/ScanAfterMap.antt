@@ -18,7 +18,7 @@ use Rattle.aio_disk.specs.declared.disk.Disk.{Ghosts as DiskGhosts}
 use Rattle.scan_rounds.specs.DiskActors.{BackendAdvanced, BackendReadMap, IsBackend, IsWorker}
 use Rattle.scan_rounds.specs.DiskActors.{entries_of_blocks, map_blocks}
 use Rattle.scan_rounds.specs.Jobs.{is_unread, answered_ending, unread_ending_count}
-use Rattle.scan_rounds.specs.ListOptions.{ListOptions}
+use Rattle.scan_settings.specs.ListOptions.{ListOptions}
 use Rattle.scan_rounds.specs.Rounds.{AllHaveOptions, AllWorkersServed, FirstBackendReadMap}
 use Rattle.scan_rounds.specs.Rounds.{MapPagesConsumed, failed_results_taken, results_taken_count}
 use Rattle.scan_rounds.specs.ConsumedPages.{MapHasPages, PagesConsumed}

@@ -7,7 +7,7 @@ use Rattle.method_worker.specs.QueueViews.{QueueView}
 use Rattle.aio_disk.specs.declared.disk.Disk.{Ghosts as DiskGhosts}
 use Rattle.scan_rounds.specs.BlockFilter.{BlockFilter}
 use Rattle.scan_rounds.specs.Calls.{ScanMayRunSource, ScanRanSource}
-use Rattle.scan_rounds.specs.ListOptions.{ListOptions}
+use Rattle.scan_settings.specs.ListOptions.{ListOptions}
 use Rattle.scan_rounds.specs.Progress.{BackendsAreReady}
 use Rattle.scan_rounds.specs.Rounds.{AllBackendsHaveRoom, AllHaveOptions, AllWorkersServed}
 use Rattle.scan_rounds.specs.Rounds.{IsLeastRoom, results_taken_count}

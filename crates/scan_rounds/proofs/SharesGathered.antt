@@ -17,7 +17,7 @@ use Rattle.scan_rounds.specs.DiskActors.{backend_options}
 use Rattle.scan_rounds.specs.Exchanges.{NothingIsOut, ShareHasRoom, ShareStands}
 use Rattle.scan_rounds.specs.Exchanges.{SharesAdvanced, SourceLed, failed_results_of_share}
 use Rattle.scan_rounds.specs.Exchanges.{jobs_of_shares, results_of_share}
-use Rattle.scan_rounds.specs.ListOptions.{ListOptions}
+use Rattle.scan_settings.specs.ListOptions.{ListOptions}
 use Rattle.scan_rounds.specs.Progress.{IsClosedByFirst}
 use Rattle.scan_rounds.specs.Rounds.{AllBackendsHaveRoom, AllHaveOptions, backend_disk_actor}
 use Rattle.scan_rounds.specs.Rounds.{failed_results_taken, results_taken_count}

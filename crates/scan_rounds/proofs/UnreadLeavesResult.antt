@@ -10,7 +10,7 @@ use Rattle.aio_handle.specs.ContractViews.{ActorView}
 use Rattle.heap_scan.specs.Job.{endings_of}
 use Rattle.read_stream.specs.StreamAnswers.{MayBeUnread}
 use Rattle.read_stream.proofs.UnreadCauses.{may_counted}
-use Rattle.scan_rounds.specs.ListOptions.{ListOptions}
+use Rattle.scan_settings.specs.ListOptions.{ListOptions}
 use Rattle.scan_rounds.specs.BlockFilter.{BlockFilter}
 use Rattle.scan_rounds.specs.Jobs.{JobIsListed, is_unread, answered_ending, entries_of_job}
 use Rattle.scan_rounds.specs.declared.job.Job.{Job}

@@ -1,5 +1,5 @@
 -- What becomes of the pages that a stream gives.
-use Rattle.std.specs.Prelude.{◌≡◌, ℕ, List, ◌∷◌, [], ◌++◌, map, Bool, false, Option, Some, None}
+use Rattle.std.specs.Prelude.{◌≡◌, ℕ, List, ◌∷◌, [], ◌++◌, map, false, Option, Some, None}
 use Rattle.std.specs.Prelude.{take, drop, length}
 use Rattle.std.specs.List.{All}
 use Rattle.page_check.specs.IsAnswer.{IsAnswer, Next as Said, Page, Stop}

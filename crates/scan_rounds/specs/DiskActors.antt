@@ -18,7 +18,7 @@ use Rattle.read_stream.specs.declared.desk.Desk.{Desk}
 use Rattle.method_worker.specs.QueueViews.{QueueView, IsSeatOf}
 use Rattle.vis_map.specs.Bits.{Map}
 use Rattle.aio_disk.specs.declared.disk.Disk.{Ghosts as DiskGhosts}
-use Rattle.scan_rounds.specs.ListOptions.{ListOptions, list_options}
+use Rattle.scan_settings.specs.ListOptions.{ListOptions, list_options}
 use Rattle.scan_rounds.specs.Jobs.{IsNewJob, JobIsListed, answered_ending, AreWholeButLast}
 use Rattle.scan_rounds.specs.Jobs.{count_unskipped, entries_of_jobs, unread_job_count}
 use Rattle.scan_rounds.specs.BlockFilter.{BlockFilter, unskipped_range, filter_of_skipping}

@@ -16,7 +16,7 @@ use Rattle.scan_rounds.specs.DiskActors.{ActorHasRoom, DiskActorAdvanced, IsBack
 use Rattle.scan_rounds.specs.DiskActors.{backend_options}
 use Rattle.scan_rounds.specs.Jobs.{AllJobsAnswered, IsNewJob, count_unskipped, job_block_count}
 use Rattle.scan_rounds.specs.Jobs.{unread_job_count}
-use Rattle.scan_rounds.specs.ListOptions.{ListOptions}
+use Rattle.scan_settings.specs.ListOptions.{ListOptions}
 use Rattle.scan_rounds.specs.Shares.{AreTermsOf, ShareSpent, share_jobs}
 use Rattle.scan_rounds.specs.declared.exchange.Phase.{Phase}
 use Rattle.scan_rounds.specs.declared.exchange.Phase.TheVariants as phase

@@ -1,4 +1,3 @@
-pub mod ListOptions
 pub mod BlockFilter
 pub mod Jobs
 pub mod ConsumedPages

@@ -1,11 +1,9 @@
--- The settings of a scan, and what they make.
+-- What the settings of a scan make.
 use Rattle.std.specs.Prelude.{◌≡◌, ℕ, ◌<◌, ◌≤◌, ◌+◌, ◌*◌, ◌/◌, List, [], length, drop, min, max}
 use Rattle.std.specs.Prelude.{◌-◌, ◌^◌, Some, vec_capacity, slice_get, slice_index_or, Bool}
-use Rattle.std.specs.Prelude.{true, false, cond}
 use Rattle.std.specs.Option.{is_some}
 use Rattle.std.specs.List.{All}
 use Rattle.std.specs.Vec.Iter.{into_iter_items}
-use Rattle.page_check.specs.declared.rules.PageRules.{PageRules}
 use Rattle.page_check.specs.declared.world.World.{Ghosts as WorldGhosts}
 use Rattle.aio_word.specs.declared.Config.{Config}
 use Rattle.aio_handle.specs.ContractViews.{AreNewActors}
@@ -14,7 +12,7 @@ use Rattle.read_stream.specs.Desks.{IsFreeDesk, desk_settings}
 use Rattle.read_stream.specs.declared.desk.Desk.{Desk}
 use Rattle.read_stream.specs.declared.desk.Settings.{Settings}
 use Rattle.aio_disk.specs.declared.disk.Disk.{Ghosts as DiskGhosts}
-use Rattle.scan_rounds.specs.ListOptions.{list_options}
+use Rattle.scan_settings.specs.ListOptions.{list_options}
 use Rattle.scan_rounds.specs.Rings.{IsRingOf}
 use Rattle.scan_rounds.specs.Rounds.{results_taken_count}
 use Rattle.scan_rounds.specs.Scans.{IsScan, scan_options, opened_disks}
@@ -24,52 +22,9 @@ use Rattle.scan_rounds.specs.declared.memory.Lists.{Lists}
 use Rattle.scan_rounds.specs.declared.memory.Memory.{Memory}
 use Rattle.scan_rounds.specs.declared.open.Parts.{Parts}
 use Rattle.scan_rounds.specs.declared.scan.Scan.{Scan}
-use Rattle.scan_rounds.specs.declared.settings.MethodKind.{MethodKind}
-use Rattle.scan_rounds.specs.declared.settings.MethodKind.TheVariants as method
-use Rattle.scan_rounds.specs.declared.settings.MethodNeeds.{MethodNeeds}
-use Rattle.scan_rounds.specs.declared.settings.ScanSettings.{ScanSettings}
+use Rattle.scan_settings.specs.declared.settings.ScanSettings.{ScanSettings}
 use Rattle.scan_rounds.specs.declared.worker.Worker.{Worker}
-
--- how its pages are read
-abbrev pub page_rules : ScanSettings → PageRules
-page_rules s = record { checksums = s.checksums; zero = s.zero }
-
--- what a scan has by a method: a seat of the queue for each backend, workers, rings
-abbrev pub needs_of_method : MethodKind → MethodNeeds
-needs_of_method method.Sync = record { queue = false; workers = false; rings = false }
-needs_of_method method.Worker = record { queue = true; workers = true; rings = false }
-needs_of_method method.Ring = record { queue = true; workers = false; rings = true }
-
--- how many workers there are by a method
-abbrev pub workers_of_method : MethodKind → ℕ → ℕ
-workers_of_method kind workers =
-    cond (needs_of_method kind).queue (cond (needs_of_method kind).workers workers 0) 0
-
-abbrev pub workers_of_settings : ScanSettings → ℕ
-workers_of_settings s = workers_of_method s.method s.workers
-
--- a scan has a disk for each backend and each worker
-abbrev pub required_disks : ScanSettings → ℕ
-required_disks s = s.backends + workers_of_settings s
-
--- how many seats of the queue backends and workers have
-abbrev pub seats_of_settings : ScanSettings → ℕ
-seats_of_settings s =
-    cond (needs_of_method s.method).queue (s.backends + workers_of_settings s) 0
-
--- how many rings there are
-abbrev pub rings_of_settings : ScanSettings → ℕ
-rings_of_settings s = cond (needs_of_method s.method).rings s.backends 0
-
--- the settings are in their ranges
-pub record AreValidScanSettings (s : ScanSettings) : Type 0 where
-  pub workers_in_range : (1 ≤ s.workers) × (s.workers ≤ 32)
-  pub backends_in_range : (1 ≤ s.backends) × (s.backends ≤ 16)
-  pub combine_in_range : (1 ≤ s.combine) × (s.combine ≤ 128)
-  pub concurrency_in_range : (1 ≤ s.concurrency) × (s.concurrency ≤ 256)
-  pub handles_in_range : (1 ≤ s.handles) × (s.handles ≤ 64)
-  pub buffers_in_range : (16 ≤ s.buffers) × (s.buffers ≤ 16384)
-  pub segment_in_range : 1 ≤ s.segment
+use Rattle.scan_settings.specs.Settings.{needs_of_method, workers_of_settings, seats_of_settings, rings_of_settings, page_rules}
 
 -- the table of a scan, whose handles begin at this generation
 abbrev pub config_of : ScanSettings → ℕ → Config

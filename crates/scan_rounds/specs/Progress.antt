@@ -10,7 +10,7 @@ use Rattle.aio_disk.specs.declared.disk.Disk.{Ghosts as DiskGhosts}
 use Rattle.scan_rounds.specs.BlockFilter.{BlockFilter}
 use Rattle.scan_rounds.specs.DiskActors.{DiskActorAdvanced, IsBackend}
 use Rattle.scan_rounds.specs.Jobs.{IsNewJob, count_unskipped, unread_job_count}
-use Rattle.scan_rounds.specs.ListOptions.{ListOptions}
+use Rattle.scan_settings.specs.ListOptions.{ListOptions}
 use Rattle.scan_rounds.specs.Rounds.{AllHaveOptions, AllJobsListed, IsLeastRoom, backend_disk_actor}
 use Rattle.scan_rounds.specs.Rounds.{failed_results_taken, results_taken_count}
 use Rattle.scan_rounds.specs.declared.backend.Backend.{Backend}

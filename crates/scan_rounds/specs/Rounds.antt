@@ -14,7 +14,7 @@ use Rattle.aio_disk.specs.declared.disk.Disk.{Ghosts as DiskGhosts}
 use Rattle.scan_rounds.specs.DiskActors.{WorkerServed, BackendReadMap, ActorHasRoom}
 use Rattle.scan_rounds.specs.DiskActors.{BackendAdvanced, IsBackend, backend_options}
 use Rattle.read_stream.specs.ActorProgress.{local_mark_count}
-use Rattle.scan_rounds.specs.ListOptions.{ListOptions}
+use Rattle.scan_settings.specs.ListOptions.{ListOptions}
 use Rattle.scan_rounds.specs.Jobs.{IsNewJob, JobIsListed, answered_ending, count_unskipped}
 use Rattle.scan_rounds.specs.Jobs.{unread_job_count}
 use Rattle.scan_rounds.specs.BlockFilter.{BlockFilter}

@@ -12,7 +12,7 @@ use Rattle.aio_handle.specs.Execution.{CountersFollowMarks, last_count}
 use Rattle.aio_handle.specs.ContractViews.{ActorView, actor_known}
 use Rattle.method_worker.specs.QueueViews.{QueueView}
 use Rattle.aio_disk.specs.declared.disk.Disk.{Ghosts as DiskGhosts}
-use Rattle.scan_rounds.specs.ListOptions.{ListOptions, list_options}
+use Rattle.scan_settings.specs.ListOptions.{ListOptions, list_options}
 use Rattle.scan_rounds.specs.DiskActors.{IsBackend, IsWorker}
 use Rattle.scan_rounds.specs.Rounds.{AllHaveOptions, IsLeastRoom, failed_results_taken}
 use Rattle.scan_rounds.specs.Rounds.{backend_disk_actor, worker_disk_actor}

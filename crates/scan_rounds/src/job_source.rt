@@ -1,7 +1,7 @@
 //! What a run lists, and what becomes of it.
 ghost use Rattle.std.specs.Prelude.{◌≡◌, ◌≤◌, ◌<◌, ◌+◌, ◌++◌, ℕ, List, [], Option, length, take, false};
 ghost use Rattle.std.specs.List.{All};
-ghost use Rattle.scan_rounds.specs.ListOptions.{ListOptions};
+ghost use Rattle.scan_settings.specs.ListOptions.{ListOptions};
 ghost use Rattle.scan_rounds.specs.Jobs.{IsNewJob, AllJobsAnswered, job_block_count};
 ghost use Rattle.scan_rounds.specs.Jobs.{count_unskipped, unread_job_count};
 ghost use Rattle.scan_rounds.specs.BlockFilter.{BlockFilter};

@@ -3,15 +3,15 @@ ghost use Rattle.std.specs.Prelude.{◌≡◌, ◌≤◌, ◌<◌, ◌+◌, ◌*
 ghost use Rattle.std.specs.List.{All};
 ghost use Rattle.aio_handle.specs.ContractViews.{AreNewActors};
 ghost use Rattle.method_worker.specs.QueueViews.{QueueView, IsSeatOf};
-ghost use Rattle.scan_rounds.specs.OpenedScan.{AreValidScanSettings, AreStreamSettings};
+ghost use Rattle.scan_settings.specs.Settings.{AreValidScanSettings};
+ghost use Rattle.scan_rounds.specs.OpenedScan.{AreStreamSettings};
 ghost use Rattle.scan_rounds.specs.OpenedScan.{HasEmptyLists, IsDeskFor, IsScanMemory, config_of};
-ghost use Rattle.scan_rounds.specs.OpenedScan.{rings_of_settings, seats_of_settings};
-ghost use Rattle.scan_rounds.specs.OpenedScan.{workers_of_settings};
+ghost use Rattle.scan_settings.specs.Settings.{rings_of_settings, seats_of_settings};
+ghost use Rattle.scan_settings.specs.Settings.{workers_of_settings};
 ghost use Rattle.scan_rounds.specs.Rings.{IsRingOf};
 
 use crate::backend::Backend;
 use crate::ring::IdleRingState;
-use crate::settings::ScanSettings;
 use crate::shared::SharedState;
 use crate::worker::Worker;
 use aio_callback::ReadIo;
@@ -21,6 +21,7 @@ use buf_pool::Pool;
 use method_worker::{QueueSeat, SubmitQueue};
 use page_check::World;
 use read_stream::{Desk, Settings};
+use scan_settings::ScanSettings;
 use std::alloc::{AllocError, Global};
 
 /// The lists of a scan, all empty.

@@ -3,7 +3,7 @@ ghost use Rattle.std.specs.Prelude.{◌≡◌, ◌≤◌, ◌∷◌, [], length,
 ghost use Rattle.std.specs.List.{All};
 ghost use Rattle.std.specs.Thread.{IsSync};
 ghost use Rattle.read_stream.specs.StreamAnswers.{MayBeUnread};
-ghost use Rattle.scan_rounds.specs.ListOptions.{ListOptions};
+ghost use Rattle.scan_settings.specs.ListOptions.{ListOptions};
 ghost use Rattle.scan_rounds.specs.DiskActors.{BackendListed, BackendMayList, IsBackend};
 ghost use Rattle.scan_rounds.specs.Progress.{BackendsMadeRound, BackendsMayMakeRound};
 ghost use Rattle.scan_rounds.specs.Progress.{IsClosedByFirst};

@@ -3,7 +3,7 @@ ghost use Rattle.std.specs.Prelude.{◌≡◌, ◌≤◌, ◌*◌, length, map, 
 ghost use Rattle.std.specs.List.{All};
 ghost use Rattle.aio_disk.specs.Shelf.{shelf_told};
 ghost use Rattle.scan_rounds.specs.Jobs.{IsNewJob};
-ghost use Rattle.scan_rounds.specs.OpenedScan.{AreValidScanSettings};
+ghost use Rattle.scan_settings.specs.Settings.{AreValidScanSettings};
 ghost use Rattle.scan_rounds.specs.Scans.{IsScan};
 
 use crate::helpers::opening::{is_in_range, open_disks, open_scan};

@@ -3,7 +3,7 @@ ghost use Rattle.std.specs.Prelude.{◌≡◌, ◌*◌, ◌^◌, ◌<◌, length
 ghost use Rattle.std.specs.Prelude.{IsTrue, string_bytes};
 ghost use Rattle.std.specs.List.{All};
 ghost use Rattle.aio_disk.specs.Shelf.{shelf_told};
-ghost use Rattle.scan_rounds.specs.OpenedScan.{AreValidScanSettings, required_disks};
+ghost use Rattle.scan_settings.specs.Settings.{AreValidScanSettings, required_disks};
 ghost use Rattle.scan_rounds.specs.Scans.{IsScan};
 
 use aio_disk::{Disk, Shelf};

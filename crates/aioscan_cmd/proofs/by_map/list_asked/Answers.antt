@@ -1,21 +1,21 @@
 use Rattle.std.proofs.Common.{rules, arith, [], ◌∷◌, ℕ, List, ap, sym, ◌∙◌, subst}
 use Rattle.std.specs.Option.{option_map}
 use Rattle.std.specs.Prelude.{Some, slice_index_or}
-use Rattle.aioscan_cmd.specs.Command.{options_of_settings}
-use Rattle.aioscan_cmd.specs.RemainingRequests.{map_page_count, resolved_request_parts}
-use Rattle.aioscan_cmd.specs.RemainingRequests.{resolved_settings}
-use Rattle.aioscan_cmd.specs.Output.{IsOutput, command_format}
-use Rattle.aioscan_cmd.specs.RequestList.{block_range}
-use Rattle.aioscan_cmd.specs.Words.{map_option_view}
-use Rattle.aioscan_cmd.specs.declared.report.Outcome.{Outcome}
+use Rattle.command_line.specs.Command.{options_of_settings}
+use Rattle.request_list.specs.RemainingRequests.{map_page_count, resolved_request_parts}
+use Rattle.request_list.specs.RemainingRequests.{resolved_settings}
+use Rattle.run_report.specs.Output.{IsOutput, command_format}
+use Rattle.request_list.specs.RequestList.{block_range}
+use Rattle.command_line.specs.Words.{map_option_view}
+use Rattle.run_report.specs.declared.report.Outcome.{Outcome}
 use Rattle.aioscan_cmd.proofs.MapCommandOutput.{all_asked, map_added, map_followed, map_part}
 use Rattle.aioscan_cmd.proofs.MapCommandOutput.{map_stopped, without_map}
 use Rattle.aioscan_cmd.proofs.MapCommandOutput.{as_many, asks_for_map, pages_asked, unread_out}
 use Rattle.aioscan_cmd.proofs.MapPagesThenBlocks.{format_with_map}
 use Rattle.aioscan_cmd.proofs.JobTextOutput.{not_write}
-use Rattle.aioscan_cmd.proofs.OutputsAppend.{lists_nothing}
-use Rattle.aioscan_cmd.proofs.MapPageCount.{all_of_zero, has_two}
-use Rattle.aioscan_cmd.proofs.ErrorTextsAppend.{tells_same, warns_also, warns_none, warns_then}
+use Rattle.run_report.proofs.OutputsAppend.{lists_nothing}
+use Rattle.request_list.proofs.MapPageCount.{all_of_zero, has_two}
+use Rattle.run_report.proofs.ErrorTextsAppend.{tells_same, warns_also, warns_none, warns_then}
 use Rattle.aioscan_cmd.proofs.JobSumsAdd.{ended_done}
 use Rattle.aioscan_cmd.proofs.by_map.list_asked.Goals as goal
 

@@ -3,14 +3,14 @@ use Rattle.std.specs.Prelude.{Some}
 use Rattle.heap_scan.specs.declared.sums.PageSums.{PageSums}
 use Rattle.aio_disk.specs.Counts.{CountRose}
 use Rattle.aio_disk.specs.Shelf.{Files, are_there, shelf_told}
-use Rattle.aioscan_cmd.specs.Command.{command_relations}
-use Rattle.aioscan_cmd.specs.GeneratedPages.{summary_line}
-use Rattle.aioscan_cmd.specs.Output.{OutputGrew}
-use Rattle.aioscan_cmd.specs.declared.report.Outcome.TheVariants.{NoMemory}
-use Rattle.aioscan_cmd.proofs.GeneratedScans.{all_listed, listed_sums_generated, generated_contents}
-use Rattle.aioscan_cmd.proofs.GeneratedScans.{generated_there, none_to_warn, one_relation}
-use Rattle.aioscan_cmd.proofs.GeneratedRuns.{ran_generated, ran_generated_without_memory}
-use Rattle.aioscan_cmd.proofs.ErrorTextsAppend.{warns_none}
+use Rattle.command_line.specs.Command.{command_relations}
+use Rattle.run_report.specs.Run.{summary_line}
+use Rattle.run_report.specs.Output.{OutputGrew}
+use Rattle.run_report.specs.declared.report.Outcome.TheVariants.{NoMemory}
+use Rattle.run_report.proofs.GeneratedScans.{all_listed, listed_sums_generated, generated_contents}
+use Rattle.run_report.proofs.GeneratedScans.{generated_there, none_to_warn, one_relation}
+use Rattle.run_report.proofs.GeneratedRuns.{ran_generated, ran_generated_without_memory}
+use Rattle.run_report.proofs.ErrorTextsAppend.{warns_none}
 use Rattle.aioscan_cmd.proofs.generated_scan.list_generated.Goals as goal
 
 pub returns-in_default-clause-ran : goal.returns-in_default-clause-ran

@@ -1,6 +1,6 @@
 use Rattle.std.proofs.Common.{◌≡◌, ◌≤◌}
-use Rattle.aioscan_cmd.specs.Lengths.{HasAllLengths}
-use Rattle.aioscan_cmd.specs.Run.{limit_known}
+use Rattle.run_report.specs.Lengths.{HasAllLengths}
+use Rattle.run_report.specs.Run.{limit_known}
 use Rattle.aioscan_cmd.proofs.lengths.take_lengths.Given as goal
 
 abbrev pub invariant-loop-relation : goal.invariant-loop-relation

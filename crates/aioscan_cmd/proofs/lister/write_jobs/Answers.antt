@@ -1,8 +1,8 @@
 use Rattle.std.proofs.Common.{arith}
-use Rattle.aioscan_cmd.proofs.OutputsAppend.{written_then}
+use Rattle.run_report.proofs.OutputsAppend.{written_then}
 use Rattle.aioscan_cmd.proofs.JobTextsAppend.{next_done, next_stopped, all_listed, among_all}
 use Rattle.aioscan_cmd.proofs.JobTextsAppend.{none_listed}
-use Rattle.aioscan_cmd.proofs.ErrorTextsAppend.{warns_also, warns_none, warns_then}
+use Rattle.run_report.proofs.ErrorTextsAppend.{warns_also, warns_none, warns_then}
 use Rattle.aioscan_cmd.proofs.lister.write_jobs.Goals as goal
 
 pub loop-job-init : goal.loop-job-init

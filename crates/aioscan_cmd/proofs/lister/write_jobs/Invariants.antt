@@ -1,5 +1,5 @@
 use Rattle.std.proofs.Common.{◌≤◌}
-use Rattle.aioscan_cmd.specs.ErrorLine.{AppendsWarnings, error_stream}
+use Rattle.run_report.specs.ErrorLine.{AppendsWarnings, error_stream}
 use Rattle.aioscan_cmd.proofs.JobTextsAppend.{FirstListed}
 use Rattle.aioscan_cmd.proofs.lister.write_jobs.Given as goal
 

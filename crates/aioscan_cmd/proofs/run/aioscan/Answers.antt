@@ -1,11 +1,11 @@
 use Rattle.std.proofs.Common.{◌++◌, arith, map, Bool, subst}
 use Rattle.std.specs.Prelude.{string_bytes}
-use Rattle.aioscan_cmd.specs.ErrorLine.{AppendsErrorText, error_stream, totals_line}
-use Rattle.aioscan_cmd.specs.Outcomes.{outcome_line}
-use Rattle.aioscan_cmd.specs.Words.{command_of}
-use Rattle.aioscan_cmd.proofs.ErrorTextsAppend.{tells_then, told_in_all}
-use Rattle.aioscan_cmd.proofs.TopClauses.{told_writes, told_exact, told_complete, any_untouched}
-use Rattle.aioscan_cmd.proofs.TopClauses.{told_warned}
+use Rattle.run_report.specs.ErrorLine.{AppendsErrorText, error_stream, totals_line}
+use Rattle.run_report.specs.Outcomes.{outcome_line}
+use Rattle.command_line.specs.Words.{command_of}
+use Rattle.run_report.proofs.ErrorTextsAppend.{tells_then, told_in_all}
+use Rattle.run_report.proofs.TopClauses.{told_writes, told_exact, told_complete, any_untouched}
+use Rattle.run_report.proofs.TopClauses.{told_warned}
 use Rattle.aioscan_cmd.proofs.run.aioscan.Goals as goal
 
 pub returns-clause-ran : goal.returns-clause-ran

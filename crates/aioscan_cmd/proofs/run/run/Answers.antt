@@ -1,7 +1,7 @@
 use Rattle.std.proofs.Common.{refl}
-use Rattle.aioscan_cmd.proofs.RefusedRuns.{ran_unread}
+use Rattle.run_report.proofs.RefusedRuns.{ran_unread}
 use Rattle.aioscan_cmd.proofs.ScanCountsAtEnd.{uncounted}
-use Rattle.aioscan_cmd.proofs.ErrorTextsAppend.{warns_none}
+use Rattle.run_report.proofs.ErrorTextsAppend.{warns_none}
 use Rattle.aioscan_cmd.proofs.run.run.Goals as goal
 
 pub returns-in-Err-Usage-clause-ran : goal.returns-in-Err-Usage-clause-ran

@@ -1,9 +1,9 @@
 use Rattle.std.proofs.Common.{◌∙◌, ℕ, sym, subst}
 use Rattle.std.specs.Prelude.{Option, Some}
-use Rattle.aioscan_cmd.specs.Output.{observed_state}
-use Rattle.aioscan_cmd.specs.Run.{IsSourceRun}
-use Rattle.aioscan_cmd.specs.Totals.{AreRunNumbers}
-use Rattle.aioscan_cmd.proofs.GeneratedRuns.{generated_causes, generated_not_refused}
+use Rattle.run_report.specs.Output.{observed_state}
+use Rattle.run_report.specs.Run.{IsSourceRun}
+use Rattle.run_report.specs.Totals.{AreRunNumbers}
+use Rattle.run_report.proofs.GeneratedRuns.{generated_causes, generated_not_refused}
 use Rattle.aioscan_cmd.proofs.run.run_command.Goals as goal
 
 pub returns-in-Some-clause-ran : goal.returns-in-Some-clause-ran

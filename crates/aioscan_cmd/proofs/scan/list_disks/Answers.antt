@@ -1,9 +1,9 @@
 use Rattle.std.proofs.Common.{◌∙◌, ap, arith, length, sum_by, []}
 use Rattle.aioscan_cmd.proofs.ScanCountsAtEnd.{no_reads, some_fault, nothing_counted}
 use Rattle.aioscan_cmd.proofs.ScanCountsAtEnd.{none_by_workers}
-use Rattle.aioscan_cmd.proofs.OutputsAppend.{lists_nothing}
+use Rattle.run_report.proofs.OutputsAppend.{lists_nothing}
 use Rattle.aioscan_cmd.proofs.DiskCountsAdd.{workers_read}
-use Rattle.aioscan_cmd.proofs.ErrorTextsAppend.{warns_none}
+use Rattle.run_report.proofs.ErrorTextsAppend.{warns_none}
 use Rattle.aioscan_cmd.proofs.scan.list_disks.Goals as goal
 
 pub returns-clause-unread : goal.returns-clause-unread

@@ -1,13 +1,13 @@
 use Rattle.std.proofs.Common.{◌∙◌, ◌≡◌, ap, length, refl, arith, rules}
 use Rattle.aio_disk.specs.Shelf.{shelf_told}
-use Rattle.aioscan_cmd.specs.Command.{command_relations}
-use Rattle.aioscan_cmd.specs.Lengths.{HasAllLengths, LengthsFailed}
-use Rattle.aioscan_cmd.specs.declared.report.Outcome.TheVariants.{Done}
-use Rattle.aioscan_cmd.proofs.RefusedRuns.{ran_out_of_memory, ran_refused, ran_without_disk}
-use Rattle.aioscan_cmd.proofs.SumsOverTold.{listed_sums}
+use Rattle.command_line.specs.Command.{command_relations}
+use Rattle.run_report.specs.Lengths.{HasAllLengths, LengthsFailed}
+use Rattle.run_report.specs.declared.report.Outcome.TheVariants.{Done}
+use Rattle.run_report.proofs.RefusedRuns.{ran_out_of_memory, ran_refused, ran_without_disk}
+use Rattle.run_report.proofs.SumsOverTold.{listed_sums}
 use Rattle.aioscan_cmd.proofs.ScanCountsAtEnd.{ended_ran, ended_counted, ended_in_order}
 use Rattle.aioscan_cmd.proofs.ScanCountsAtEnd.{ended_by_causes, ended_not_usage, scanned_behind}
-use Rattle.aioscan_cmd.proofs.ErrorTextsAppend.{warns_also, warns_none}
+use Rattle.run_report.proofs.ErrorTextsAppend.{warns_also, warns_none}
 use Rattle.aioscan_cmd.proofs.scan.list_files.Goals as goal
 
 pub returns-in_default-clause-ran : goal.returns-in_default-clause-ran

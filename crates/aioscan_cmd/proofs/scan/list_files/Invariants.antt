@@ -1,6 +1,6 @@
 use Rattle.std.proofs.Common.{◌*◌, length}
 use Rattle.aio_disk.specs.Shelf.{shelf_told}
-use Rattle.aioscan_cmd.specs.RemainingRequests.{resolved_settings}
+use Rattle.request_list.specs.RemainingRequests.{resolved_settings}
 use Rattle.aioscan_cmd.proofs.scan.list_files.Given as goal
 
 -- the shelf and the settings fix what all objects of the run agree on

@@ -1,9 +1,9 @@
 use Rattle.std.proofs.Common.{◌≡◌, rules, [], subst, false}
-use Rattle.aioscan_cmd.specs.Outcomes.{is_refused}
-use Rattle.aioscan_cmd.specs.declared.report.Outcome.{Outcome}
+use Rattle.run_report.specs.Outcomes.{is_refused}
+use Rattle.run_report.specs.declared.report.Outcome.{Outcome}
 use Rattle.aioscan_cmd.proofs.ScanCountsAtEnd.{no_reads, no_faults, nothing_counted}
 use Rattle.aioscan_cmd.proofs.ScanCountsAtEnd.{scan_refused, scanned_nothing}
-use Rattle.aioscan_cmd.proofs.ErrorTextsAppend.{warns_also, warns_none}
+use Rattle.run_report.proofs.ErrorTextsAppend.{warns_also, warns_none}
 use Rattle.aioscan_cmd.proofs.scan.open_and_list.Goals as goal
 
 pub returns-in-Ok-clause-scanned : goal.returns-in-Ok-clause-scanned

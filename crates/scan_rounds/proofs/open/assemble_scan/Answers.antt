@@ -4,9 +4,10 @@ use Rattle.std.specs.Vec.Iter.{into_iter_items}
 use Rattle.page_check.specs.declared.rules.PageRules.{PageRules}
 use Rattle.aio_handle.specs.ContractViews.{AreNewActors, ActorView}
 use Rattle.method_worker.specs.QueueViews.{IsSeatOf, SeatView}
-use Rattle.scan_rounds.specs.ListOptions.{list_options}
+use Rattle.scan_settings.specs.ListOptions.{list_options}
 use Rattle.scan_rounds.specs.Rings.{IsRingOf}
-use Rattle.scan_rounds.specs.OpenedScan.{IsDeskFor, needs_of_method}
+use Rattle.scan_rounds.specs.OpenedScan.{IsDeskFor}
+use Rattle.scan_settings.specs.Settings.{needs_of_method}
 use Rattle.scan_rounds.specs.declared.scan.Scan.{Scan}
 use Rattle.scan_rounds.proofs.AssembledScan.{opened_scan}
 use Rattle.scan_rounds.proofs.PartsGiven.{left_by_workers}

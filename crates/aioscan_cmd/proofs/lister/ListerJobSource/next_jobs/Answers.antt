@@ -2,7 +2,7 @@ use Rattle.std.proofs.Common.{arith, ap, length, length-append, take, None}
 use Rattle.scan_rounds.specs.BlockFilter.{unskipped_entries}
 use Rattle.scan_rounds.proofs.UnskippedCount.{none_left_out}
 use Rattle.aioscan_cmd.specs.ListerState.{unskipped_job_requests, lister_filter}
-use Rattle.aioscan_cmd.specs.RequestList.{blocks_of_parts}
+use Rattle.request_list.specs.RequestList.{blocks_of_parts}
 use Rattle.aioscan_cmd.proofs.JobTextsAppend.{requests_length}
 use Rattle.aioscan_cmd.proofs.UnskippedBlocksAppend.{blocks_after_cut}
 use Rattle.aioscan_cmd.proofs.lister.ListerJobSource.next_jobs.Goals as goal

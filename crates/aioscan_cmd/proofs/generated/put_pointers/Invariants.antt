@@ -1,6 +1,0 @@
-use Rattle.std.proofs.Common.{◌≡◌, ◌++◌}
-use Rattle.aioscan_cmd.specs.GeneratedPages.{generated_pointer_bytes}
-use Rattle.aioscan_cmd.proofs.generated.put_pointers.Given as goal
-
-abbrev pub invariant-loop-index : goal.invariant-loop-index
-invariant-loop-index l = l.out.items ≡ l.initial.out.items ++ generated_pointer_bytes l.index

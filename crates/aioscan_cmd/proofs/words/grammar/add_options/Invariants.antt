@@ -1,9 +1,0 @@
-use Rattle.std.proofs.Common.{◌≡◌, map, take}
-use Rattle.clap.specs.Words.{app_of}
-use Rattle.aioscan_cmd.specs.Grammar.{option_rule, with_rules}
-use Rattle.aioscan_cmd.proofs.words.grammar.add_options.Given as goal
-
-abbrev pub invariant-loop-name : goal.invariant-loop-name
-invariant-loop-name l =
-    let rules = map (λ name. option_rule name.now) (take l.name-index l.names) in
-    app_of l.command ≡ with_rules (app_of l.fn.command) rules

@@ -1,0 +1,4 @@
+pub mod GrammarRulesAppend
+pub mod WordValues
+pub mod MapWords
+pub mod ParseClauses

@@ -1,0 +1,2 @@
+pub mod GeneratedBytesAppend
+pub mod GeneratedPagesValid

@@ -1,0 +1,2 @@
+pub mod RequestList
+pub mod RemainingRequests

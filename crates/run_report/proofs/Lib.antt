@@ -1,0 +1,14 @@
+pub mod SinkTextsAppend
+pub mod OutputsAppend
+pub mod CutsInParts
+pub mod RefusedRuns
+pub mod ListedRuns
+pub mod SumsOverTold
+mod RunsOverTold
+mod FileRunsOverTold
+mod ExactOutcomes
+pub mod TopClauses
+mod GeneratedPageReads
+pub mod GeneratedRuns
+pub mod GeneratedScans
+pub mod ErrorTextsAppend

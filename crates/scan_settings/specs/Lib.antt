@@ -1,0 +1,2 @@
+pub mod ListOptions
+pub mod Settings
