@@ -1,7 +1,9 @@
 //! Reads whose pages have checksums. The numbers are those of a server for these pages.
+ghost use Rattle.record_tests.specs.PendingReads.{IsPendingRead};
+
 use crate::reads::{Ending, aimed, check_calls, outcome_of, place, result_of};
 use aio_callback::CallbackId::{Buffer, Count, File, ZeroBuffer};
-use aio_callback::Raw;
+use aio_callback::{Raw, ReadIo};
 use aio_result::{AioResult, Status};
 use aio_word::Class;
 use page_fixtures::checksums::with_checksum;
@@ -23,7 +25,7 @@ struct Row {
     zero: bool,
     /// The result, how many pages are good, and which of them were zeroed.
     result: AioResult,
-    good: u32,
+    good: u8,
     zeroed: &'static [usize],
 }
 
@@ -53,24 +55,29 @@ fn whole() -> Row {
 }
 
 /// The page at `place` is invalid.
-fn invalid(name: &'static str, sums: [u16; 4], place: u32) -> Row {
+fn invalid(name: &'static str, sums: [u16; 4], place: u8) -> Row {
     Row {
         name,
         sums,
-        result: result_of(2, Status::Error, place, place as i32),
+        result: result_of(2, Status::Error, u32::from(place), i32::from(place)),
         good: place,
         ..whole()
     }
 }
 
 /// Of `good` pages so many are zeroed.
-fn warned(name: &'static str, sums: [u16; 4], good: u32, zeroed: &'static [usize]) -> Row {
+fn warned(name: &'static str, sums: [u16; 4], good: u8, zeroed: &'static [usize]) -> Row {
     Row {
         name,
         sums,
         zero: true,
-        answer: Raw::Read(good),
-        result: result_of(4, Status::Warning, zeroed.len() as u32, good as i32),
+        answer: Raw::Read(u32::from(good)),
+        result: result_of(
+            4,
+            Status::Warning,
+            zeroed.len().min(4) as u32,
+            i32::from(good),
+        ),
         good,
         zeroed,
         ..whole()
@@ -78,13 +85,13 @@ fn warned(name: &'static str, sums: [u16; 4], good: u32, zeroed: &'static [usize
 }
 
 /// Fewer pages than asked for come.
-fn short(name: &'static str, first: u32, sums: [u16; 4], good: u32) -> Row {
+fn short(name: &'static str, first: u32, sums: [u16; 4], good: u8) -> Row {
     Row {
         name,
         first,
         sums,
-        answer: Raw::Read(good),
-        result: result_of(1, Status::Partial, 0, good as i32),
+        answer: Raw::Read(u32::from(good)),
+        result: result_of(1, Status::Partial, 0, i32::from(good)),
         good,
         ..whole()
     }
@@ -102,6 +109,34 @@ fn without_pages(name: &'static str, answer: Raw, error: u32) -> Row {
     }
 }
 
+/// The record gets the pages of the row.
+fn put_pages(io: &mut ReadIo, row: &Row)
+    requires { IsPendingRead 4 io.old }
+    ensures { IsPendingRead 4 io.new }
+{
+    for index in 0..4usize {
+        let parts: Parts<'_> = if row.flagged == Some(index) {
+            FLAGGED
+        } else {
+            EMPTY
+        };
+        let page = with_checksum(page_of(parts), row.sums[index]);
+        place(io, index, &page);
+    }
+}
+
+/// The blocks of the row, and of which the places are given the page.
+fn blocks_of(row: &Row) -> [(u32, bool); 4] {
+    let mut blocks = [(0, false); 4];
+    let mut block = row.first;
+    for (index, told) in blocks.iter_mut().enumerate() {
+        let is_good = index < usize::from(row.good) && !row.zeroed.contains(&index);
+        *told = (block, is_good);
+        block = block.wrapping_add(1);
+    }
+    blocks
+}
+
 fn check_row<R: Abort + AllocGlobal + Wait>(rt: &R, row: &Row) -> Result<(), Fail> {
     let Row { name, first, .. } = *row;
     assert!(rt;
@@ -111,23 +146,7 @@ fn check_row<R: Abort + AllocGlobal + Wait>(rt: &R, row: &Row) -> Result<(), Fai
     assert!(rt; first < 0x8000_0000, "{name}");
     let buffer = if row.zero { ZeroBuffer } else { Buffer };
     let mut io = aimed(rt.alloc(), &[Count, buffer, File], first, row.checksums)?;
-    let mut blocks = [(0, false); 4];
-    let mut block = first;
-    for index in 0..4usize {
-        let parts: Parts<'_> = if row.flagged == Some(index) {
-            FLAGGED
-        } else {
-            EMPTY
-        };
-        place(
-            &mut io,
-            index,
-            &with_checksum(page_of(parts), row.sums[index]),
-        );
-        let is_good = index < row.good as usize && !row.zeroed.contains(&index);
-        blocks[index] = (block, is_good);
-        block = block.wrapping_add(1);
-    }
+    put_pages(&mut io, row);
     let ended = outcome_of(rt, rt.alloc(), io, row.answer)?;
     let wanted = Ending {
         class: match row.answer {
@@ -136,10 +155,10 @@ fn check_row<R: Abort + AllocGlobal + Wait>(rt: &R, row: &Row) -> Result<(), Fai
             Raw::Read(_) => Class::Short,
         },
         result: row.result,
-        good: row.good,
+        good: u32::from(row.good),
     };
     assert_eq!(rt; ended.ending, wanted, "{name}");
-    check_calls(rt, &ended, row.checksums, blocks, name);
+    check_calls(rt, &ended, row.checksums, blocks_of(row), name);
     for (index, marks) in ended.zeroed.iter().enumerate() {
         let zeroed = row.zeroed.contains(&index);
         assert_eq!(rt; *marks, (zeroed, zeroed), "{name}, page {index}");
