@@ -3,7 +3,7 @@
 #![tactic(auto)]
 
 #[cfg(test)]
-mod generated_pages;
+mod generated_runs;
 #[cfg(test)]
 mod map_reads;
 #[cfg(test)]
