@@ -1,0 +1,1 @@
+"""The parts of damaged_pages: each module reads one thing of a stopped PostgreSQL cluster."""
