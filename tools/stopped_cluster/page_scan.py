@@ -26,15 +26,15 @@ class Scan:
 
     def look_at(self, files):
         """Scans all files. Where checksums are verified, those of each segment number by themselves."""
-        self.total = sum(size for _, _, size in files)
+        self.total = sum(it.size for it in files)
         numbers = range(MOST_SEGMENTS if self.checksums else 0)
         for number in numbers:
-            self.look_at_batches([it for it in files if it[1] == number], number, True)
-        rest = [it for it in files if it[1] not in numbers]
+            self.look_at_batches([it for it in files if it.number == number], number, True)
+        rest = [it for it in files if it.number not in numbers]
         self.look_at_batches(rest, 0, False)
         self.report.clear_progress()
-        for path, _, _ in rest if self.checksums else []:
-            self.report.tell(f"{path}: headers alone, since it lies behind block {MOST_SEGMENTS * SEGMENT - 1}")
+        for it in rest if self.checksums else []:
+            self.report.tell(f"{it.path}: headers alone, since it lies behind block {MOST_SEGMENTS * SEGMENT - 1}")
 
     def look_at_batches(self, files, zeros, checksums):
         """Scans so many files at a time as may be open together, with the segments before each."""
@@ -44,33 +44,39 @@ class Scan:
         for begin in range(0, len(files), most):
             part = files[begin : begin + most]
             with tempfile.TemporaryDirectory() as links:
-                batch = Batch(self, links, [(path, number) for path, number, _ in part], zeros, checksums)
-                batch.link_all()
-                batch.scan()
-            self.done += sum(size for _, _, size in part)
+                Batch(self, link_all(self.data, links, part, zeros), zeros, checksums).scan()
+            self.done += sum(it.size for it in part)
+
+
+def link_all(data, links, files, zeros):
+    """The word by which the program finds each file, with its path and the number of its segment. It is
+    the path, or a link whose name no segment follows. Making a link takes longer than reading a page."""
+    if zeros:
+        with open(f"{links}/zeros", "wb") as file:
+            file.truncate(SEGMENT * PAGE)
+    found = []
+    for link, it in enumerate(files):
+        if it.alone and it.number == 0 and zeros == 0:
+            found.append((it.path, it.path, it.number))
+            continue
+        for number in range(zeros):
+            os.symlink("zeros", f"{links}/{segment_name(link, number)}")
+        os.symlink(f"{data}/{it.path}", f"{links}/{segment_name(link, zeros)}")
+        found.append((f"{links}/{link}", it.path, it.number))
+    return found
 
 
 class Batch:
-    """Files that the program looks at in one run, by links whose names no segment follows: their paths
-    below the data folder, each with the number of its segment. So many segments of zeros, which are
-    not read, stand before each: then its blocks have their own numbers, which count in checksums."""
+    """Files that the program looks at in one run: the word, the path below the data folder and the
+    number of the segment of each. So many segments of zeros, which are not read, stand before each:
+    then its blocks have their own numbers, which count in checksums."""
 
-    def __init__(self, scan, links, files, zeros, checksums):
-        self.over, self.links, self.files, self.zeros, self.checksums = scan, links, files, zeros, checksums
+    def __init__(self, scan, files, zeros, checksums):
+        self.over, self.files, self.zeros, self.checksums = scan, files, zeros, checksums
         self.report = scan.report
 
     def part(self, begin, end):
-        return Batch(self.over, self.links, self.files[begin:end], self.zeros, self.checksums)
-
-    def link_all(self):
-        if self.zeros:
-            with open(f"{self.links}/zeros", "wb") as file:
-                file.truncate(SEGMENT * PAGE)
-        for link, (path, _) in enumerate(self.files):
-            for number in range(self.zeros):
-                os.symlink("zeros", f"{self.links}/{segment_name(link, number)}")
-            os.symlink(f"{self.over.data}/{path}", f"{self.links}/{segment_name(link, self.zeros)}")
-        self.files = [(str(link), *file) for link, file in enumerate(self.files)]
+        return Batch(self.over, self.files[begin:end], self.zeros, self.checksums)
 
     def blocks_before(self, number):
         """How many blocks of its relation stand before those that the program counts in a segment."""
@@ -79,9 +85,9 @@ class Batch:
     def run(self, options=()):
         """Runs aioscan over these files. Gives its status, the damaged pages as (file, segment, block),
         and the line that it ended with."""
-        words = [*self.over.words(self.checksums), *options, "--", *(link for link, _, _ in self.files)]
+        words = [*self.over.words(self.checksums), *options, "--", *(word for word, _, _ in self.files)]
         quiet = subprocess.DEVNULL
-        child = subprocess.Popen(words, cwd=self.links, stdin=quiet, stdout=quiet, stderr=subprocess.PIPE)
+        child = subprocess.Popen(words, cwd=self.over.data, stdin=quiet, stdout=quiet, stderr=subprocess.PIPE)
         damaged, line = [], ""
         for text in self.wait_for(child).decode("utf-8", "replace").splitlines():
             match = re.fullmatch(r"zeroed page (\d+) (\d+)", text)

@@ -1,9 +1,12 @@
 """The relation files of a cluster: which there are, and what is wrong with their sizes."""
-import os, re, stat
+import collections, os, re, stat
 
 from stopped_cluster.page_check import PAGE, SEGMENT
 
 SEGMENT_FILE = re.compile(r"((?:t\d+_)?\d+(?:_(?:fsm|vm|init))?)(?:\.(\d{1,5}))?")
+
+# alone: it is the only segment of its relation.
+File = collections.namedtuple("File", "path number size alone")
 
 
 def segment_name(first, number):
@@ -71,8 +74,8 @@ class RelationFiles:
         return None
 
     def files(self):
-        """Each file that can be read: its path, the number of its segment, its bytes."""
-        return [(segment_name(first, number), number, sizes[number])
+        """Each file that can be read, with the number of its segment."""
+        return [File(segment_name(first, number), number, sizes[number], len(sizes) == 1)
                 for first, sizes in self.sizes.items() for number in sorted(sizes) if sizes[number] is not None]
 
     def look_at_segments(self):
