@@ -14,6 +14,14 @@ LABELS = ["Database cluster state", "pg_control version number", "Catalog versio
           "Latest checkpoint's NextXID"]
 
 
+class BigEndian(Exception):
+    """A cluster of a machine whose numbers begin with their highest byte."""
+
+
+class OtherVersion(Exception):
+    """A pg_control whose fields are not known here."""
+
+
 def crc32c(data):
     """The CRC that PostgreSQL takes of pg_control."""
     crc = 0xFFFFFFFF
@@ -40,14 +48,14 @@ def by_controldata(data):
 
 
 def by_its_bytes(raw):
-    """The same from the file itself. The error says why it cannot be had."""
+    """The same from the file itself. A ValueError says how it is damaged."""
     if len(raw) < CRC_PLACES[-1] + 4:
         raise ValueError(f"has {len(raw)} bytes")
     version, catalog, state = struct.unpack_from("<3I", raw, 8)
     if version % 65536 == 0 and version:
-        raise ValueError("is big-endian, which the program does not read")
+        raise BigEndian
     if version not in VERSIONS:
-        raise ValueError(f"is of version {version}, and not of PostgreSQL 12 to 18")
+        raise OtherVersion(version)
     if not any(crc32c(raw[:at]) == struct.unpack_from("<I", raw, at)[0] for at in CRC_PLACES):
         raise ValueError("has a wrong CRC")
     low, high = struct.unpack_from("<2I", raw, 32)
@@ -60,7 +68,7 @@ def by_its_bytes(raw):
 
 
 def read_control(data):
-    """pg_control of a cluster. Raises ValueError for what it cannot be, OSError where it is not read."""
+    """What pg_control of a cluster says, or an exception of those above."""
     with open(f"{data}/global/pg_control", "rb") as file:
         raw = file.read()
     return by_controldata(data) or by_its_bytes(raw)

@@ -22,7 +22,7 @@ def marked_past_the_end(files, checksums):
         if not path.endswith("_vm") or not sizes.get(0) or not main or None in main.values():
             continue
         last = max(main)
-        blocks = last * SEGMENT + main[last] // PAGE
+        blocks = last * SEGMENT + -(-main[last] // PAGE)  # a torn block has a line of its own
         try:
             with open(f"{files.data}/{path}", "rb") as file:
                 raw = file.read()

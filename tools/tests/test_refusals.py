@@ -35,7 +35,9 @@ class Refusals(Cluster):
 
     def test_control_files_of_other_systems(self):
         self.write("global/pg_control", control(version=843))
-        self.assertIn("is of version 843", self.refused(self.data))
+        status, _, err = self.run_script(self.data)
+        self.assertEqual(status, 0)
+        self.assertIn("is of version 843", err[0])
         self.write("global/pg_control", bytes(8) + struct.pack(">3I", 1300, 0, 1) + bytes(8000))
         self.assertIn("big-endian", self.refused(self.data))
 
