@@ -153,6 +153,22 @@ class Damage(Cluster):
         status, out, err = self.run_script("-q", self.data)
         self.assertEqual((status, len(out), err), (1, 1, []))
 
+    def test_pg_controldata_is_asked_first(self):
+        program = self.stand_in("\n".join(f"echo '{label}:  {value}'" for label, value in [
+            ("Database cluster state", "in archive recovery"), ("pg_control version number", 1300),
+            ("Catalog version number", 7), ("Database block size", 8192), ("Data page checksum version", 0),
+            ("Blocks per segment of large relation", 131072), ("Latest checkpoint location", "7/8"),
+            ("Latest checkpoint's NextXID", "0:9")]))
+        os.makedirs(f"{self.top}/bin")
+        os.rename(program, f"{self.top}/bin/pg_controldata")
+        _, _, err = self.run_script(self.data, path=f"{self.top}/bin:/usr/bin:/bin")
+        self.assertIn("PostgreSQL 15, in archive recovery, checksums off", err[0])
+        # One of another version complains of the CRC, and is not believed.
+        with open(f"{self.top}/bin/pg_controldata", "a", encoding="ascii") as file:
+            file.write("echo WARNING: Calculated CRC checksum does not match\n")
+        _, _, err = self.run_script(self.data, path=f"{self.top}/bin:/usr/bin:/bin")
+        self.assertIn("PostgreSQL 15, shut down, checksums on", err[0])
+
     def test_jobs_change_nothing(self):
         self.change("base/5/16384", PAGE, bytes(24))
         self.assertEqual(self.run_script("--jobs", "1", self.data), self.run_script("--jobs=16", self.data))
