@@ -154,7 +154,7 @@ class Damage(Cluster):
         self.assertEqual((status, len(out), err), (1, 1, []))
 
     def test_pg_controldata_is_asked_first(self):
-        program = self.stand_in("\n".join(f"echo '{label}:  {value}'" for label, value in [
+        program = self.stand_in("\n".join(f'echo "{label}:  {value}"' for label, value in [
             ("Database cluster state", "in archive recovery"), ("pg_control version number", 1300),
             ("Catalog version number", 7), ("Database block size", 8192), ("Data page checksum version", 0),
             ("Blocks per segment of large relation", 131072), ("Latest checkpoint location", "7/8"),
