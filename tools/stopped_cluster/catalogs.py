@@ -81,20 +81,17 @@ class Database:
         self.catalogs, self.folder = catalogs, folder
         self.map = catalogs.filenode_map(folder)
         self.schemas = {}
-        for _, values in self.rows(f"{folder}/{self.map.get(PG_NAMESPACE, PG_NAMESPACE)}", 72):
+        for _, values in catalogs.rows(f"{folder}/{self.map.get(PG_NAMESPACE, PG_NAMESPACE)}", 72):
             self.schemas.setdefault(struct.unpack_from("<I", values)[0], text_of(values, 4))
-        found = self.rows(f"{folder}/{self.map.get(PG_CLASS, PG_CLASS)}", 120)
+        found = catalogs.rows(f"{folder}/{self.map.get(PG_CLASS, PG_CLASS)}", 120)
         self.relations = [self.relation(values, visible) for visible, values in found]
         self.by_oid = {}
         for it in self.relations:
             self.by_oid.setdefault(it.oid, it)
         self.owners = {it.toast: it.oid for it in reversed(self.relations) if it.toast}
         if PG_INDEX in self.by_oid:
-            for _, values in reversed(self.rows(self.by_oid[PG_INDEX].file, 8)):
+            for _, values in reversed(catalogs.rows(self.by_oid[PG_INDEX].file, 8)):
                 self.owners.update([struct.unpack_from("<2I", values)])
-
-    def rows(self, path, least):
-        return self.catalogs.rows(path, least)
 
     def relation(self, values, visible):
         oid, = struct.unpack_from("<I", values)

@@ -1,14 +1,14 @@
 """Damage to standard output, everything else to the error stream, and how much there was of each."""
 import json, re, sys
 
-RELATION_FILE = re.compile(r"((?:t\d+_)?\d+)((?:_(?:fsm|vm|init))?)(?:\.(\d{1,5}))?")
+from stopped_cluster.relation_files import SEGMENT_FILE
 
 
 def relation_of(path):
     """The path of a relation's first file of its main fork."""
     folder, _, name = path.rpartition("/")
-    match = RELATION_FILE.fullmatch(name)
-    return f"{folder}/{match[1]}" if match else path
+    match = SEGMENT_FILE.fullmatch(name)
+    return f"{folder}/{re.sub('_(fsm|vm|init)$', '', match[1])}" if match else path
 
 
 class Report:
