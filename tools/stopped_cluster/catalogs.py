@@ -159,7 +159,8 @@ class Catalogs:
         if space in (DEFAULT_SPACE, GLOBAL_SPACE):
             return "global" if space == GLOBAL_SPACE else f"base/{database}"
         version = rf"pg_tblspc/{space}/PG_{self.major}_\d+/{database}"
-        return next((it for it in self.folders if re.fullmatch(version, it)), f"pg_tblspc/{space}/PG_{self.major}/{database}")
+        found = (it for it in self.folders if re.fullmatch(version, it))
+        return next(found, f"pg_tblspc/{space}/PG_{self.major}/{database}")
 
     def database_rows(self):
         """Of each database by its OID: its name, its default tablespace, and whether it is whole."""

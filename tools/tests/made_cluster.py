@@ -109,8 +109,9 @@ class Cluster(unittest.TestCase):
 
     def run_script(self, *words, script=SCRIPT, program=PROGRAM, path=None, user=None):
         """Runs damaged_pages. Gives its status and the lines of both streams."""
-        env = {**os.environ, "AIOSCAN": program or "", "PYTHONDONTWRITEBYTECODE": "1", "PATH": path or "/usr/bin:/bin"}
-        run = subprocess.run([SYSTEM_PYTHON if user else sys.executable, script, *words], env=env, cwd="/", capture_output=True, text=True,
+        env = {**os.environ, "AIOSCAN": program or "", "PATH": path or "/usr/bin:/bin"}
+        python = SYSTEM_PYTHON if user else sys.executable
+        run = subprocess.run([python, script, *words], env=env, cwd="/", capture_output=True, text=True,
                              stdin=subprocess.DEVNULL, user=user)
         return run.returncode, run.stdout.splitlines(), run.stderr.splitlines()
 

@@ -26,7 +26,7 @@ KINDS = {
     "header": (lambda test: test.change("base/5/16384", PAGE, bytes(24)),
                ["base/5/16384 block 1 (shop public.orders): damaged page header"]),
     "checksum": (lambda test: test.write("base/5/16384", page(0) + page(0)),
-                 [f"base/5/16384 block 1 (shop public.orders): checksum {struct.unpack_from('<H', page(1), 8)[0]} expected X"]),
+                 ["base/5/16384 block 1 (shop public.orders): checksum X expected X"]),
     "header of an index": (lambda test: test.change("base/5/16388", 0, bytes(24)),
                            ["base/5/16388 block 0 (shop public.orders_pkey, index of public.orders): damaged page header"]),
     "header of a TOAST table": (
