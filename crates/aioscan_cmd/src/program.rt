@@ -1,7 +1,8 @@
 //! A run of the program: the words of the command line, the files of the system and the two
 //! standard streams go to the top call.
-ghost use Rattle.std.specs.Prelude.{◌≡◌};
+ghost use Rattle.std.specs.Prelude.{◌≡◌, ◌⊎◌, map, None, string_bytes};
 ghost use Rattle.std.specs.Process.{exit_status};
+ghost use Rattle.command_line.specs.Words.{command_of};
 
 use crate::{Report, aioscan};
 use aio_disk::{FileShelf, StdSink};
@@ -40,25 +41,29 @@ fn exit_of(report: &Report) -> ExitCode
     ExitCode::from(report.status)
 }
 
-/// Runs the program with the words of the command line, over the files of the system. The exit code
-/// is the status of the run; without memory for the words it is 5.
+/// Runs the program with these words, over the files of the system and the two standard streams.
+/// The exit code is the status of the run. It may wait.
+pub fn run_words<R>(rt: &R, words: &[String]) -> ExitCode
+where
+    R: Files<File = File> + AllocGlobal + Print + Eprint + Threads + Wait + Sync,
+    ensures usage { exit_status result ≡ 2 → command_of (map string_bytes words.now) ≡ None }
+    ensures refused { command_of (map string_bytes words.now) ≡ None
+        → (exit_status result ≡ 2) ⊎ (exit_status result ≡ 5) }
+{
+    let mut shelf = FileShelf::new(rt);
+    let mut out = StdSink::out(rt);
+    let mut err = StdSink::err(rt);
+    let report = aioscan(rt, rt.alloc(), words, &mut shelf, &mut out, &mut err);
+    exit_of(&report)
+}
+
+/// Runs the program with the words of the command line. Without memory for them the exit code is 5.
 pub fn run<R>(rt: &R) -> ExitCode
 where
     R: Env + Files<File = File> + AllocGlobal + Print + Eprint + Threads + Wait + Sync,
 {
-    let Ok(words) = words(rt) else {
-        return ExitCode::from(NO_MEMORY);
-    };
-    let mut shelf = FileShelf::new(rt);
-    let mut out = StdSink::out(rt);
-    let mut err = StdSink::err(rt);
-    let report = aioscan(
-        rt,
-        rt.alloc(),
-        words.as_slice(),
-        &mut shelf,
-        &mut out,
-        &mut err,
-    );
-    exit_of(&report)
+    match words(rt) {
+        Ok(words) => run_words(rt, words.as_slice()),
+        Err(_) => ExitCode::from(NO_MEMORY),
+    }
 }
