@@ -1,8 +1,8 @@
 -- What the aim of a record tells.
 use Rattle.std.proofs.Common.{◌≡◌, List, [], ◌∷◌, map, refl, arith, ℕ, Bool, true, false, cond}
-use Rattle.aio_callback.specs.declared.chain.CallbackId.{CallbackId}
-use Rattle.aio_callback.specs.declared.chain.CallbackId.TheVariants.{File, Buffer, Count}
-use Rattle.aio_callback.specs.declared.chain.CallbackId.TheVariants.{ZeroBuffer}
+use Rattle.read_callbacks.specs.declared.chain.CallbackId.{CallbackId}
+use Rattle.read_callbacks.specs.declared.chain.CallbackId.TheVariants.{File, Buffer, Count}
+use Rattle.read_callbacks.specs.declared.chain.CallbackId.TheVariants.{ZeroBuffer}
 use Rattle.aio_callback.specs.ReadIoView.{ReadIoView, ReadsAs, record_aim, number_of_id}
 
 same-id : (a b : CallbackId) → number_of_id a ≡ number_of_id b → a ≡ b

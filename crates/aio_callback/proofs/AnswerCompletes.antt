@@ -13,17 +13,17 @@ use Rattle.page_check.specs.declared.verdict.Verdict.{Verdict}
 use Rattle.page_check.specs.declared.verdict.Verdict.TheVariants.{Zero, Sane, Bad}
 use Rattle.aio_disk.specs.Disk.{ReadsPages}
 use Rattle.aio_word.specs.declared.Class.TheVariants.{Unended, Whole, Short}
-use Rattle.aio_callback.specs.declared.chain.Raw.{Raw}
-use Rattle.aio_callback.specs.declared.chain.Raw.TheVariants.{Read, Failed}
-use Rattle.aio_callback.specs.Chain.{is_bad, is_bad_verdict, class_of, chain_start, chain_result}
-use Rattle.aio_callback.specs.Chain.{good_count, Outcome}
-use Rattle.aio_callback.specs.GoodPages.{IsGivenAs}
+use Rattle.read_callbacks.specs.declared.chain.Raw.{Raw}
+use Rattle.read_callbacks.specs.declared.chain.Raw.TheVariants.{Read, Failed}
+use Rattle.read_callbacks.specs.Chain.{is_bad, is_bad_verdict, class_of, chain_start, chain_result}
+use Rattle.read_callbacks.specs.Chain.{good_count, Outcome}
+use Rattle.read_callbacks.specs.GoodPages.{IsGivenAs}
 use Rattle.aio_callback.specs.ReadIoView.{ReadIoView, IsToldRead, HasAnswer, IsCompletedRead}
 use Rattle.aio_callback.specs.ReadIoView.{ReadFits, after_shared, IsAfterShared, record_aim}
 use Rattle.aio_callback.specs.ReadIoView.{number_of_id}
-use Rattle.aio_callback.proofs.ChainLowersResult.{good_below}
-use Rattle.aio_callback.proofs.ChainChangesPages.{PageMatchesMark, match_at, matching_pages, begun_holds}
-use Rattle.aio_callback.proofs.CheckedPages.{good_clean}
+use Rattle.read_callbacks.proofs.ChainLowersResult.{good_below}
+use Rattle.read_callbacks.proofs.ChainChangesPages.{PageMatchesMark, match_at, matching_pages, begun_holds}
+use Rattle.read_callbacks.proofs.CheckedPages.{good_clean}
 
 not_bad : (v : Verdict) → is_bad_verdict v ≡ false → v ≢ Bad
 not_bad Zero e b = absurd (cc)

@@ -5,9 +5,10 @@ use Rattle.std.specs.List.{range_with_len}
 use Rattle.std.proofs.lemmas.List.{append_assoc}
 use Rattle.std.proofs.lemmas.List.FromFn.{map-range_with_len_more}
 use Rattle.std.proofs.Common.{nat_lt, not, ◌&&◌, if◌then◌else◌}
-use Rattle.aio_callback.specs.Chain.{good_count}
+use Rattle.read_callbacks.specs.Chain.{good_count}
 use Rattle.aio_callback.specs.ReadIoView.{ReadIoView, record_page, record_zeroed}
-use Rattle.aio_callback.specs.Finishes.{Finish, FinishesGrew, record_reference, one_finish}
+use Rattle.read_callbacks.specs.Finishes.{Finish, FinishesGrew}
+use Rattle.aio_callback.specs.Finishes.{record_reference, one_finish}
 use Rattle.aio_callback.specs.Finishes.{all_finishes}
 
 grew_more : (a b c : Option (List Finish)) (xs ys : List Finish) → FinishesGrew a b xs

@@ -8,8 +8,8 @@ use Rattle.std.specs.List.{refill, length_refill}
 use Rattle.std.proofs.lemmas.List.{take-append-le, take-take}
 use Rattle.page_check.specs.Told.{Told}
 use Rattle.aio_disk.specs.Disk.{ReadsPages}
-use Rattle.aio_callback.specs.declared.chain.Raw.{Raw}
-use Rattle.aio_callback.specs.declared.chain.Raw.TheVariants.{Read, Failed}
+use Rattle.read_callbacks.specs.declared.chain.Raw.{Raw}
+use Rattle.read_callbacks.specs.declared.chain.Raw.TheVariants.{Read, Failed}
 use Rattle.aio_callback.specs.ReadIoView.{ReadIoView, IsToldRead, HasAnswer, with_pages}
 use Rattle.aio_callback.specs.ReadIoView.{record_aim, number_of_id}
 

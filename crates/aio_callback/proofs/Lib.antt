@@ -1,11 +1,5 @@
-pub mod BlocksOfPages
-pub mod ChainLowersResult
-pub mod ChainChangesPages
-pub mod CheckedPages
-pub mod ChecksByPlaces
 pub mod AnswerCompletes
 pub mod StreamReadEnds
 pub mod FinishesGrow
 pub mod FirstPagesRead
 pub mod AimNamesRead
-pub mod BadPagesZeroed

@@ -6,7 +6,7 @@ use Rattle.std.specs.Prelude.{IfSome, count_by}
 use Rattle.std.proofs.Math.Logic.{⊎_elim}
 use Rattle.std.proofs.Math.Nat.{eq-or-lt_of_le}
 use Rattle.std.proofs.lemmas.List.{length-take, get_or-take}
-use Rattle.aio_callback.proofs.BlocksOfPages.{first_bad-some}
+use Rattle.read_callbacks.proofs.BlocksOfPages.{first_bad-some}
 use Rattle.std.proofs.lemmas.Bool.Decides.{nat_tests}
 use Rattle.page_check.specs.Told.{Told, relation_block_count}
 use Rattle.page_check.specs.SynchronousAnswer.{Damaged, Absent, found_at}
@@ -15,19 +15,19 @@ use Rattle.aio_disk.specs.Disk.{ReadsPages}
 use Rattle.aio_result.specs.declared.Status.TheVariants.{Good, Partial, Warning, Error}
 use Rattle.aio_result.specs.declared.AioResult.{AioResult}
 use Rattle.aio_word.specs.declared.Class.TheVariants as class
-use Rattle.aio_callback.specs.declared.chain.Raw.{Raw}
-use Rattle.aio_callback.specs.declared.chain.Raw.TheVariants.{Read, Failed}
-use Rattle.aio_callback.specs.declared.chain.CallbackId.{CallbackId}
-use Rattle.aio_callback.specs.Chain.{result_of, is_bad, first_bad, stopped_at}
-use Rattle.aio_callback.specs.Chain.{raw_result, class_of, bad_among, natural_part}
-use Rattle.aio_callback.specs.Chain.{after_file, after_buffer, chain_result, outcome_of, good_count}
-use Rattle.aio_callback.specs.Chain.{Outcome, chain_start, none_zeroed, after_zero, with_warning}
+use Rattle.read_callbacks.specs.declared.chain.Raw.{Raw}
+use Rattle.read_callbacks.specs.declared.chain.Raw.TheVariants.{Read, Failed}
+use Rattle.read_callbacks.specs.declared.chain.CallbackId.{CallbackId}
+use Rattle.read_callbacks.specs.Chain.{result_of, is_bad, first_bad, stopped_at}
+use Rattle.read_callbacks.specs.Chain.{raw_result, class_of, bad_among, natural_part}
+use Rattle.read_callbacks.specs.Chain.{after_file, after_buffer, chain_result, outcome_of, good_count}
+use Rattle.read_callbacks.specs.Chain.{Outcome, chain_start, none_zeroed, after_zero, with_warning}
 use Rattle.aio_callback.specs.ReadIoView.{ReadIoView, IsToldRead, ReadFits, IsCompletedRead}
 use Rattle.aio_callback.specs.ReadIoView.{record_zeroed}
 use Rattle.aio_callback.specs.StreamOutcomes.{stream_ids, IsStreamOutcome, Whole, Rest, Warned, Invalid}
 use Rattle.aio_callback.specs.StreamOutcomes.{Unread, PastEnd, given_count, zeroed_among}
 use Rattle.aio_callback.proofs.AnswerCompletes.{found_bad, told_at}
-use Rattle.aio_callback.proofs.BadPagesZeroed.{front_marks, marked_count}
+use Rattle.read_callbacks.proofs.BadPagesZeroed.{front_marks, marked_count}
 
 not_below : (a b : ℕ) → (a < b → ⊥) → b ≤ a
 not_below a b absent = omega arith

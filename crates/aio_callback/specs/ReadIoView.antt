@@ -11,15 +11,15 @@ use Rattle.aio_handle.specs.declared.record.Label.{Label}
 use Rattle.aio_handle.specs.Labels.{bound_label}
 use Rattle.aio_result.specs.declared.AioResult.{AioResult}
 use Rattle.aio_result.specs.declared.Status.TheVariants.{Unknown}
-use Rattle.aio_callback.specs.declared.chain.Raw.{Raw}
-use Rattle.aio_callback.specs.declared.chain.Raw.TheVariants.{Read, Failed}
-use Rattle.aio_callback.specs.declared.chain.CallbackId.{CallbackId}
-use Rattle.aio_callback.specs.declared.chain.CallbackId.TheVariants.{File, Buffer, Count}
-use Rattle.aio_callback.specs.declared.chain.CallbackId.TheVariants.{ZeroBuffer}
-use Rattle.aio_callback.specs.Chain.{Outcome, outcome_of, none_zeroed, chain_start, result_of}
-use Rattle.aio_callback.specs.Chain.{class_of}
-use Rattle.aio_callback.specs.Chain.{chain_result, good_count}
-use Rattle.aio_callback.specs.GoodPages.{IsGivenAs}
+use Rattle.read_callbacks.specs.declared.chain.Raw.{Raw}
+use Rattle.read_callbacks.specs.declared.chain.Raw.TheVariants.{Read, Failed}
+use Rattle.read_callbacks.specs.declared.chain.CallbackId.{CallbackId}
+use Rattle.read_callbacks.specs.declared.chain.CallbackId.TheVariants.{File, Buffer, Count}
+use Rattle.read_callbacks.specs.declared.chain.CallbackId.TheVariants.{ZeroBuffer}
+use Rattle.read_callbacks.specs.Chain.{Outcome, outcome_of, none_zeroed, chain_start, result_of}
+use Rattle.read_callbacks.specs.Chain.{class_of}
+use Rattle.read_callbacks.specs.Chain.{chain_result, good_count}
+use Rattle.read_callbacks.specs.GoodPages.{IsGivenAs}
 
 pub record ReadIoView : Type 0 where
   pub label : Label

@@ -2,7 +2,7 @@
 use Rattle.std.specs.Prelude.{vec_capacity, ◌⊎◌, []}
 use Rattle.std.specs.Prelude.{◌≡◌, ◌+◌, ◌^◌, ◌≤◌, ◌<◌, true, length, IfSome, take, ◌≢◌}
 use Rattle.aio_word.specs.declared.Class.TheVariants.{Unended}
-use Rattle.aio_callback.specs.Chain.{IsWithin, good_count}
+use Rattle.read_callbacks.specs.Chain.{IsWithin, good_count}
 use Rattle.aio_callback.specs.declared.record.ReadIo.TheInside.{Inside}
 
 pub record RecordInvariant (r : Inside) : Type 0 where

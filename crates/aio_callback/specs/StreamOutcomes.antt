@@ -7,11 +7,11 @@ use Rattle.page_check.specs.SynchronousAnswer.{Damaged, Absent, found_at}
 use Rattle.aio_result.specs.declared.AioResult.{AioResult}
 use Rattle.aio_result.specs.declared.Status.TheVariants.{Good, Partial, Warning, Error}
 use Rattle.aio_word.specs.declared.Class.TheVariants as class
-use Rattle.aio_callback.specs.declared.chain.CallbackId.{CallbackId}
-use Rattle.aio_callback.specs.declared.chain.CallbackId.TheVariants.{File, Buffer, Count}
-use Rattle.aio_callback.specs.declared.chain.CallbackId.TheVariants.{ZeroBuffer}
-use Rattle.aio_callback.specs.declared.chain.Raw.TheVariants.{Read}
-use Rattle.aio_callback.specs.Chain.{result_of, natural_part, class_of}
+use Rattle.read_callbacks.specs.declared.chain.CallbackId.{CallbackId}
+use Rattle.read_callbacks.specs.declared.chain.CallbackId.TheVariants.{File, Buffer, Count}
+use Rattle.read_callbacks.specs.declared.chain.CallbackId.TheVariants.{ZeroBuffer}
+use Rattle.read_callbacks.specs.declared.chain.Raw.TheVariants.{Read}
+use Rattle.read_callbacks.specs.Chain.{result_of, natural_part, class_of}
 use Rattle.aio_callback.specs.ReadIoView.{ReadIoView}
 
 abbrev pub stream_ids : Bool → List CallbackId

@@ -3,9 +3,9 @@ ghost use Rattle.std.specs.Prelude.{◌≡◌, ◌≢◌, ◌≤◌, ◌↔◌, 
 ghost use Rattle.std.specs.Prelude.{Option, Some};
 ghost use Rattle.page_check.specs.Told.{Told};
 ghost use Rattle.aio_word.specs.declared.Class.TheVariants.{Unended};
-ghost use Rattle.aio_callback.specs.declared.chain.Raw.{Raw};
-ghost use Rattle.aio_callback.specs.declared.chain.CallbackId.{CallbackId};
-ghost use Rattle.aio_callback.specs.Chain.{good_count, has_check_behind_file, ChecksBehindFile};
+ghost use Rattle.read_callbacks.specs.declared.chain.Raw.{Raw};
+ghost use Rattle.read_callbacks.specs.declared.chain.CallbackId.{CallbackId};
+ghost use Rattle.read_callbacks.specs.Chain.{good_count, has_check_behind_file, ChecksBehindFile};
 ghost use Rattle.aio_callback.specs.ReadIoView.{ReadIoView, ReadFits, IsToldRead, HasAnswer};
 ghost use Rattle.aio_callback.specs.ReadIoView.{with_pages};
 ghost use Rattle.aio_callback.specs.ReadIoView.{record_aim, ReadsAs, record_zeroed};

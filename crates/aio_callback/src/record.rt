@@ -8,14 +8,14 @@ ghost use Rattle.page_check.specs.contracts.page.Page.{the_row as page_row};
 ghost use Rattle.aio_word.specs.declared.Class.TheVariants.{Unended};
 ghost use Rattle.aio_callback.specs.contracts.record.ReadIo.{the_row};
 ghost use Rattle.aio_handle.specs.Labels.{bound_label};
-ghost use Rattle.aio_callback.specs.Chain.{good_count, IsWithin};
-ghost use Rattle.aio_callback.specs.GoodPages.{IsGivenAs};
+ghost use Rattle.read_callbacks.specs.Chain.{good_count, IsWithin};
+ghost use Rattle.read_callbacks.specs.GoodPages.{IsGivenAs};
 
-use crate::chain::{CallbackId, Raw, checks, number};
 use aio_handle::{Label, Record};
 use aio_result::{AioResult, Status};
 use aio_word::Class;
 use page_check::Page;
+use read_callbacks::{CallbackId, Raw, page_count, verifies_pages};
 use std::alloc::{AllocError, Global};
 use std::marker::Model;
 
@@ -274,8 +274,8 @@ impl ReadIo {
         ensures value { result ≡ good_count self.now.ids self.now.result }
         ensures few { self.now.label.ended ≢ Unended → result ≤ self.now.count }
     {
-        if checks(&self.ids[..self.id_count]) {
-            number(self.result.result)
+        if verifies_pages(&self.ids[..self.id_count]) {
+            page_count(self.result.result)
         } else {
             0
         }

@@ -2,7 +2,7 @@
 use Rattle.std.specs.Prelude.{◌≡◌, ℕ, List, Option, IfSome, length}
 use Rattle.page_check.specs.Told.{Told}
 use Rattle.buf_pool.specs.declared.descriptor.Tag.{Tag}
-use Rattle.aio_callback.specs.GoodPages.{IsGood}
+use Rattle.read_callbacks.specs.GoodPages.{IsGood}
 
 -- it carries no tag, or a tag whose good page it is
 abbrev pub Carries : Option Told → Option Tag → List ℕ → Type 0

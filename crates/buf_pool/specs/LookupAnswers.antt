@@ -9,7 +9,7 @@ use Rattle.buf_pool.specs.declared.index.Begun.TheVariants as begun
 use Rattle.buf_pool.specs.declared.pin.Pin.{Pin}
 use Rattle.buf_pool.specs.declared.pool.Found.{Found}
 use Rattle.buf_pool.specs.declared.pool.Found.TheVariants as found
-use Rattle.aio_callback.specs.GoodPages.{IsGood}
+use Rattle.read_callbacks.specs.GoodPages.{IsGood}
 use Rattle.buf_pool.specs.PinnedPages.{carried_page}
 
 -- the tag that a pin was asked for

@@ -1,6 +1,6 @@
 //! A part of the pool.
 ghost use Rattle.std.specs.Prelude.{◌≡◌, ◌+◌, ◌<◌, ◌≤◌, length, ⊤, IfOk, IfSome};
-ghost use Rattle.aio_callback.specs.GoodPages.{IsGood};
+ghost use Rattle.read_callbacks.specs.GoodPages.{IsGood};
 ghost use Rattle.buf_pool.specs.LookupAnswers.{IsLookOf, IsBegunOf, pinned_tag, pinned_page};
 ghost use Rattle.buf_pool.specs.Parts.{part_size, first_frame, IsFrameOfPart, FallsTo};
 

@@ -19,7 +19,7 @@ pub struct Pin<'p, W: World> {
 
 impl<'p, W: World> Pin<'p, W> {
     ghost use Rattle.buf_pool.specs.LookupAnswers.{pinned_tag, pinned_page};
-    ghost use Rattle.aio_callback.specs.GoodPages.{IsGood};
+    ghost use Rattle.read_callbacks.specs.GoodPages.{IsGood};
 
     /// The tag that was asked for.
     pub fn tag(&self) -> Tag

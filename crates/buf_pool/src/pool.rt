@@ -6,7 +6,7 @@ use crate::index::{Begun, Look};
 use crate::part::Part;
 use crate::pin::Pin;
 use crate::share::{Share, part_count};
-use aio_callback::Places;
+use read_callbacks::Places;
 use aio_word::WaitRef;
 use crossbeam_utils::CachePadded;
 use page_check::{Page, World};

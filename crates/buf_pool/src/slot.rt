@@ -3,7 +3,7 @@ ghost use Rattle.std.specs.Prelude.{◌≡◌, IfSome};
 ghost use Rattle.counted_slot.specs.Counting.{readers};
 ghost use Rattle.buf_pool.specs.FrameMemory.{Carries};
 ghost use Rattle.buf_pool.specs.LookupAnswers.{pinned_tag, pinned_page};
-ghost use Rattle.aio_callback.specs.GoodPages.{IsGood};
+ghost use Rattle.read_callbacks.specs.GoodPages.{IsGood};
 
 use crate::carried_page::CarriedPage;
 use crate::descriptor::Tag;

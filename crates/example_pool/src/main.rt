@@ -4,7 +4,7 @@
 ghost use Rattle.std.specs.Prelude.{◌≡◌, ◌<◌, None};
 ghost use Rattle.page_check.specs.Verdict.{IsValid};
 
-use aio_callback::Places;
+use read_callbacks::Places;
 use aio_word::WaitRef;
 use buf_pool::{Found, Pin, Pool, Tag};
 use page_check::{Page, Verdict, World, check};

@@ -12,7 +12,8 @@ use Rattle.aio_handle.specs.LifeWords.{claimed_word, executed_word, completed_wo
 use Rattle.aio_handle.specs.CallEvents.{EventMade}
 use Rattle.aio_handle.proofs.ListsGrow.{appends-then, io-grows, share-grows}
 use Rattle.aio_callback.specs.ReadIoView.{ReadIoView, IsCompletedRead, record_aim}
-use Rattle.aio_callback.specs.Finishes.{Finish, FinishesGrew, all_finishes, record_reference}
+use Rattle.read_callbacks.specs.Finishes.{Finish, FinishesGrew}
+use Rattle.aio_callback.specs.Finishes.{all_finishes, record_reference}
 use Rattle.method_ring.specs.RingRunner.{ReadCompletedAs}
 
 pub ended-as : (told : Option Told) (t : WaitRef) (aim : List ℕ) (class : Class) (p m q : Known)

@@ -17,11 +17,12 @@ use Rattle.aio_word.specs.Tokens.{AppendsMarks, io_mark_count, failed_mark_count
 use Rattle.aio_word.proofs.MoreMarksKeep.{count_at_place, mark_count-more, io-more, failed-more}
 use Rattle.aio_handle.specs.Execution.{last_count, ExecutesAll}
 use Rattle.aio_handle.proofs.ListsGrow.{appends-then}
-use Rattle.aio_callback.specs.Chain.{class_of}
-use Rattle.aio_callback.specs.declared.chain.Raw.{Raw}
-use Rattle.aio_callback.specs.declared.chain.Raw.TheVariants.{Read, Failed}
+use Rattle.read_callbacks.specs.Chain.{class_of}
+use Rattle.read_callbacks.specs.declared.chain.Raw.{Raw}
+use Rattle.read_callbacks.specs.declared.chain.Raw.TheVariants.{Read, Failed}
 use Rattle.aio_callback.specs.ReadIoView.{ReadIoView, record_aim}
-use Rattle.aio_callback.specs.Finishes.{Finish, FinishesGrew, all_finishes, record_reference}
+use Rattle.read_callbacks.specs.Finishes.{Finish, FinishesGrew}
+use Rattle.aio_callback.specs.Finishes.{all_finishes, record_reference}
 use Rattle.method_ring.specs.ClaimedIos.{ClaimedIo, claimed_mark, without_claimed}
 use Rattle.method_ring.specs.Group.{PickedFrom}
 use Rattle.method_ring.specs.RingRunner.{group_claims, end_marks, all_end_marks, group_finishes}

@@ -8,8 +8,8 @@ use Rattle.page_check.specs.Told.{Told}
 use Rattle.aio_disk.specs.Counts.{CountRose, count_plus, HasCause}
 use Rattle.aio_disk.specs.Disk.{AnswersPages}
 use Rattle.aio_word.specs.declared.WaitRef.{WaitRef}
-use Rattle.aio_callback.specs.declared.chain.Raw.{Raw}
-use Rattle.aio_callback.specs.declared.chain.Raw.TheVariants.{Failed}
+use Rattle.read_callbacks.specs.declared.chain.Raw.{Raw}
+use Rattle.read_callbacks.specs.declared.chain.Raw.TheVariants.{Failed}
 use Rattle.aio_callback.specs.ReadIoView.{ReadIoView, IsToldRead, HasAnswer, record_aim, with_pages}
 use Rattle.aio_callback.specs.ReadIoView.{number_of_id}
 use Rattle.aio_callback.proofs.FirstPagesRead.{answered_by}

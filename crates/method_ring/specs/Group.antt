@@ -4,8 +4,8 @@ use Rattle.page_check.specs.Told.{Told}
 use Rattle.aio_disk.specs.Counts.{CountRose, count_plus}
 use Rattle.aio_word.specs.declared.WaitRef.{WaitRef}
 use Rattle.aio_word.specs.Stands.{IsIn}
-use Rattle.aio_callback.specs.declared.chain.Raw.{Raw}
-use Rattle.aio_callback.specs.declared.chain.Raw.TheVariants.{Read, Failed}
+use Rattle.read_callbacks.specs.declared.chain.Raw.{Raw}
+use Rattle.read_callbacks.specs.declared.chain.Raw.TheVariants.{Read, Failed}
 use Rattle.aio_callback.specs.ReadIoView.{ReadIoView, HasAnswer, record_aim}
 use Rattle.method_ring.specs.declared.ring.Entry.{Entry}
 use Rattle.method_ring.specs.ClaimedIos.{ClaimedIo, claimed_entry, claimed_with_number}

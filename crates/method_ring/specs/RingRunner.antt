@@ -15,7 +15,8 @@ use Rattle.aio_word.specs.Stands.{IsIn}
 use Rattle.aio_word.specs.Tokens.{AppendsMarks, make_mark, failed_mark_count}
 use Rattle.aio_handle.specs.Execution.{last_count}
 use Rattle.aio_callback.specs.ReadIoView.{ReadIoView, IsCompletedRead, record_aim}
-use Rattle.aio_callback.specs.Finishes.{Finish, FinishesGrew, all_finishes, record_reference}
+use Rattle.read_callbacks.specs.Finishes.{Finish, FinishesGrew}
+use Rattle.aio_callback.specs.Finishes.{all_finishes, record_reference}
 use Rattle.method_worker.specs.QueueViews.{QueueView, SeatView}
 use Rattle.method_worker.specs.SeatCalls.{SeatPops}
 use Rattle.method_ring.specs.ClaimAttempts.{ClaimsOrFindsUnclaimable}

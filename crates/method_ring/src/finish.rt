@@ -6,7 +6,7 @@ ghost use Rattle.aio_word.specs.Tokens.{IsClaimed};
 ghost use Rattle.aio_handle.specs.Labels.{bound_label};
 ghost use Rattle.aio_handle.specs.UnchangedTokens.{ClaimUnchanged};
 ghost use Rattle.aio_handle.specs.ContractViews.{IsActorOf, IsSameActor};
-ghost use Rattle.aio_callback.specs.Chain.{class_of};
+ghost use Rattle.read_callbacks.specs.Chain.{class_of};
 ghost use Rattle.aio_callback.specs.ReadIoView.{HasAnswer, record_aim};
 ghost use Rattle.method_ring.specs.ClaimedIos.{AllClaimedIos};
 ghost use Rattle.method_ring.specs.RingRunner.{ReadCompletedAs, CompletesGroup};

@@ -8,7 +8,8 @@ use Rattle.aio_word.specs.declared.Kind.TheVariants as kind
 use Rattle.aio_word.specs.declared.WaitRef.{WaitRef}
 use Rattle.aio_word.specs.Tokens.{AppendsMarks, make_mark}
 use Rattle.aio_callback.specs.ReadIoView.{ReadIoView, IsCompletedRead, record_aim}
-use Rattle.aio_callback.specs.Finishes.{Finish, FinishesGrew, all_finishes, record_reference}
+use Rattle.read_callbacks.specs.Finishes.{Finish, FinishesGrew}
+use Rattle.aio_callback.specs.Finishes.{all_finishes, record_reference}
 
 -- the read of this aim was completed as some record says: the actor made the Io mark with the
 -- record's class and the Shared mark, and nothing else; the places were told each block of it; and

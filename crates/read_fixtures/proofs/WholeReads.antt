@@ -14,8 +14,8 @@ use Rattle.aio_handle.specs.Execution.{ExecutesAll, last_count}
 use Rattle.aio_handle.specs.LifeWords.{claimed_word, executed_word, completed_word}
 use Rattle.aio_handle.specs.CallEvents.{EventMade}
 use Rattle.aio_handle.proofs.ListsGrow.{claims-completed-one, appends-then, io-grows, share-grows}
-use Rattle.aio_callback.specs.declared.chain.Raw.TheVariants.{Read}
-use Rattle.aio_callback.specs.Chain.{class_of}
+use Rattle.read_callbacks.specs.declared.chain.Raw.TheVariants.{Read}
+use Rattle.read_callbacks.specs.Chain.{class_of}
 use Rattle.aio_callback.specs.ReadIoView.{ReadIoView, HasAnswer}
 
 -- where nothing is told, each answer within the count stands for the pages

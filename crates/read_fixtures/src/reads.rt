@@ -7,7 +7,7 @@ ghost use Rattle.aio_word.specs.Stands.{IsIn};
 ghost use Rattle.aio_word.specs.Tokens.{IsInFlight};
 ghost use Rattle.aio_handle.specs.CallEvents.{WordLoaded, IsCompleted};
 ghost use Rattle.aio_handle.specs.ContractViews.{IsActorOf, IsSameActor};
-ghost use Rattle.aio_callback.specs.declared.chain.CallbackId.TheVariants.{Count, Buffer, File};
+ghost use Rattle.read_callbacks.specs.declared.chain.CallbackId.TheVariants.{Count, Buffer, File};
 ghost use Rattle.aio_callback.specs.ReadIoView.{record_aim, with_aim};
 ghost use Rattle.aio_fixtures.specs.Lives.{HasUnreclaimed, IsSubmitted};
 

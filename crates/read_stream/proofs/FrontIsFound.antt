@@ -3,7 +3,7 @@ use Rattle.std.proofs.Common.{◌≡◌, ℕ, ◌≤◌, List, [], length, subst
 use Rattle.std.specs.Prelude.{None}
 use Rattle.page_check.specs.declared.world.World.{Ghosts as WorldGhosts}
 use Rattle.aio_word.specs.declared.Known.{Known}
-use Rattle.aio_callback.specs.GoodPages.{IsGood}
+use Rattle.read_callbacks.specs.GoodPages.{IsGood}
 use Rattle.buf_pool.specs.LookupAnswers.{pinned_page}
 use Rattle.buf_pool.specs.declared.pin.Pin.{Pin}
 use Rattle.read_stream.specs.declared.at_hand.AtHand.TheVariants as at_hand

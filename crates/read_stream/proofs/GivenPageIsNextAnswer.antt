@@ -8,7 +8,7 @@ use Rattle.page_check.specs.PageBytes.{IsPage}
 use Rattle.page_check.specs.Told.{Told}
 use Rattle.page_check.specs.IsAnswer.{IfPage, Next as Said, Stop as SaidStop}
 use Rattle.aio_word.specs.declared.Known.{Known}
-use Rattle.aio_callback.specs.GoodPages.{IsGood}
+use Rattle.read_callbacks.specs.GoodPages.{IsGood}
 use Rattle.aio_callback.specs.ReadIoView.{record_page, record_zeroed}
 use Rattle.buf_pool.specs.LookupAnswers.{pinned_page}
 use Rattle.read_stream.specs.declared.at_hand.AtHand.{AtHand}

@@ -10,7 +10,7 @@ use Rattle.page_check.specs.SynchronousAnswer.{found_at, zeroed_if_damaged, read
 use Rattle.page_check.specs.IsAnswer.{Page, Stop, IsNext}
 use Rattle.page_check.proofs.NextAnswer as found
 use Rattle.page_check.proofs.VerifiedPages.{zero_page_valid_as}
-use Rattle.aio_callback.specs.GoodPages.{IsGivenAs}
+use Rattle.read_callbacks.specs.GoodPages.{IsGivenAs}
 use Rattle.page_check.specs.SynchronousAnswer.{IfKnown, IfUnknown, zero_page}
 use Rattle.page_check.specs.Checksum.{IsValidAs}
 use Rattle.page_check.specs.declared.rules.PageRules.{PageRules}

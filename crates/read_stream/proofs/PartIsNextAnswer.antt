@@ -11,7 +11,7 @@ use Rattle.aio_word.specs.declared.Class.TheVariants.{Failed}
 use Rattle.aio_word.specs.declared.Kind.TheVariants as kind
 use Rattle.aio_word.specs.declared.Known.{Known}
 use Rattle.aio_word.specs.Events.{make_mark}
-use Rattle.aio_callback.specs.GoodPages.{IsGivenAs}
+use Rattle.read_callbacks.specs.GoodPages.{IsGivenAs}
 use Rattle.aio_callback.specs.StreamOutcomes.{stream_ids}
 use Rattle.aio_callback.specs.Finishes.{record_reference}
 use Rattle.aio_callback.specs.ReadIoView.{ReadIoView, record_page, record_zeroed}

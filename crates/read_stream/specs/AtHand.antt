@@ -5,7 +5,7 @@ use Rattle.page_check.specs.Told.{Told}
 use Rattle.page_check.specs.SynchronousAnswer.{Ending, End, Invalid, PastEnd, Unread}
 use Rattle.page_check.specs.IsAnswer.{Next as Said, Stop as SaidStop}
 use Rattle.aio_callback.specs.ReadIoView.{record_page, record_zeroed}
-use Rattle.aio_callback.specs.GoodPages.{IsGood}
+use Rattle.read_callbacks.specs.GoodPages.{IsGood}
 use Rattle.buf_pool.specs.LookupAnswers.{pinned_page}
 use Rattle.read_stream.specs.declared.at_hand.AtHand.{AtHand}
 use Rattle.read_stream.specs.declared.at_hand.AtHand.TheVariants as at_hand

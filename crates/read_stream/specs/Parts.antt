@@ -4,7 +4,7 @@ use Rattle.page_check.specs.Told.{Told}
 use Rattle.page_check.specs.SynchronousAnswer.{Damaged, Absent, found_at}
 use Rattle.aio_word.specs.declared.Class.TheVariants.{Failed}
 use Rattle.aio_callback.specs.StreamOutcomes.{stream_ids}
-use Rattle.aio_callback.specs.Chain.{good_count}
+use Rattle.read_callbacks.specs.Chain.{good_count}
 use Rattle.aio_callback.specs.ReadIoView.{ReadIoView, record_zeroed}
 use Rattle.read_stream.specs.declared.parts.Part.{Part}
 use Rattle.read_stream.specs.declared.parts.Part.TheVariants as part

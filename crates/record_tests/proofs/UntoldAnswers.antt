@@ -1,9 +1,9 @@
 -- Answers of records in the tests, where nothing is told.
 use Rattle.std.proofs.Common.{◌≡◌, ℕ, ◌≤◌, refl, sym, subst, Option, Some, None}
 use Rattle.page_check.specs.Told.{Told}
-use Rattle.aio_callback.specs.declared.chain.Raw.{Raw}
-use Rattle.aio_callback.specs.declared.chain.Raw.TheVariants.{Read, Failed}
-use Rattle.aio_callback.specs.Chain.{IsWithin}
+use Rattle.read_callbacks.specs.declared.chain.Raw.{Raw}
+use Rattle.read_callbacks.specs.declared.chain.Raw.TheVariants.{Read, Failed}
+use Rattle.read_callbacks.specs.Chain.{IsWithin}
 use Rattle.aio_callback.specs.ReadIoView.{ReadIoView, IsToldRead, HasAnswer}
 use Rattle.record_tests.specs.PendingReads.{IsPendingRead}
 

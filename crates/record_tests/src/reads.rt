@@ -1,7 +1,7 @@
 //! Reads of four blocks, how they end, and what the places are told of them.
 ghost use Rattle.std.specs.Prelude.{◌≡◌, ◌≢◌, ◌<◌, ◌^◌, false, None, IfOk, IfSome};
 ghost use Rattle.aio_word.specs.declared.Class.TheVariants.{Unended};
-ghost use Rattle.aio_callback.specs.Chain.{IsWithin};
+ghost use Rattle.read_callbacks.specs.Chain.{IsWithin};
 ghost use Rattle.record_tests.specs.PendingReads.{IsPendingRead};
 
 use aio_callback::{CallbackId, Places, Raw, ReadIo};

@@ -3,15 +3,13 @@ ghost use Rattle.std.specs.Prelude.{◌≡◌, ◌≢◌, ◌≤◌, ◌<◌, �
 ghost use Rattle.std.specs.Prelude.{nat_lt, option_map, if◌then◌else◌, Option, Some, None, IfSome};
 ghost use Rattle.page_check.specs.Told.{Told};
 ghost use Rattle.aio_word.specs.declared.Class.TheVariants.{Unended};
-ghost use Rattle.aio_callback.specs.CallbackCounts.{counts_after};
-ghost use Rattle.aio_callback.specs.Chain.{good_count};
+ghost use Rattle.read_callbacks.specs.CallbackCounts.{counts_after};
+ghost use Rattle.read_callbacks.specs.Chain.{good_count};
 
 use super::{ReadIo, fill_room};
-use crate::callback_counts::{Counts, run_local};
-use crate::chain::{first_result, run_chain};
-use crate::places::Places;
 use aio_word::WaitRef;
 use page_check::{Page, World};
+use read_callbacks::{Counts, Places, first_result, run_chain, run_local};
 use std::sync::Wait;
 
 impl ReadIo {
@@ -19,7 +17,8 @@ impl ReadIo {
     ghost use Rattle.aio_callback.specs.ReadIoView.{HasAnswer, ReadFits};
     ghost use Rattle.aio_callback.specs.ReadIoView.{AllGood, IsAfterShared, after_local};
     ghost use Rattle.aio_callback.specs.ReadIoView.{IsCompletedRead};
-    ghost use Rattle.aio_callback.specs.Finishes.{FinishesGrew, all_finishes};
+    ghost use Rattle.read_callbacks.specs.Finishes.{FinishesGrew};
+    ghost use Rattle.aio_callback.specs.Finishes.{all_finishes};
 
     // The page of a block, where it is good and was not zeroed.
     fn page_if(&self, index: u32, good: u32) -> Option<&Page>

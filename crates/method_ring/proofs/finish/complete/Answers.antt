@@ -2,7 +2,7 @@ use Rattle.std.proofs.Common.{rules, ◌≡◌, ap, ◌∙◌, subst}
 use Rattle.aio_word.specs.declared.Class.{Class}
 use Rattle.aio_word.specs.declared.Known.{Known}
 use Rattle.aio_word.specs.declared.WaitRef.{WaitRef}
-use Rattle.aio_callback.specs.Chain.{class_of}
+use Rattle.read_callbacks.specs.Chain.{class_of}
 use Rattle.aio_callback.specs.ReadIoView.{ReadIoView, record_aim}
 use Rattle.aio_callback.specs.Finishes.{record_reference}
 use Rattle.method_ring.specs.RingRunner.{ReadCompletedAs}

@@ -1,6 +1,7 @@
 use Rattle.std.proofs.Common.{map}
 use Rattle.std.specs.List.{range_with_len}
-use Rattle.aio_callback.specs.Finishes.{FinishesGrew, one_finish}
+use Rattle.read_callbacks.specs.Finishes.{FinishesGrew}
+use Rattle.aio_callback.specs.Finishes.{one_finish}
 use Rattle.aio_callback.proofs.record.ReadIo.finish_all.Given as goal
 
 abbrev pub invariant-loop-index : goal.invariant-loop-index

@@ -1,6 +1,6 @@
 use Rattle.std.proofs.Common.{take, arith, inr}
 use Rattle.std.specs.List.{length_refill}
-use Rattle.aio_callback.proofs.ChainLowersResult.{good_within}
+use Rattle.read_callbacks.proofs.ChainLowersResult.{good_within}
 use Rattle.aio_callback.proofs.record.ReadIo.run_shared.Goals as goal
 
 pub invariant_of-self : goal.invariant_of-self

@@ -1,5 +1,5 @@
 use Rattle.std.proofs.Common.{[], subst}
-use Rattle.aio_callback.specs.GoodPages.{IsGood}
+use Rattle.read_callbacks.specs.GoodPages.{IsGood}
 use Rattle.buf_pool.specs.LookupAnswers.{pinned_page}
 use Rattle.buf_pool.specs.declared.descriptor.Tag.{Tag}
 use Rattle.read_stream.specs.QueuedBlocks.{HasInFront}

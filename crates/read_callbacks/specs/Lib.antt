@@ -1,0 +1,4 @@
+pub mod GoodPages
+pub mod Chain
+pub mod Finishes
+pub mod CallbackCounts
