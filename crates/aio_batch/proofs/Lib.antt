@@ -1,3 +1,4 @@
 pub mod StagedTokensKept
 pub mod NextSubmission
 pub mod HeardInOrder
+pub mod OwnClaimsKnown

@@ -1,5 +1,6 @@
 //! The method that executes at once.
 ghost use Rattle.std.specs.Prelude.{◌≡◌, ◌<◌, [], None};
+ghost use Rattle.std.specs.List.{All};
 ghost use Rattle.aio_handle.specs.Execution.{ExecutesAll};
 ghost use Rattle.aio_handle.specs.ContractViews.{IsActorOf, IsSameActor};
 ghost use Rattle.aio_handle.specs.ClaimAttempt.{OwnerKnowsClaimed};
@@ -42,5 +43,29 @@ impl<W: World> Method<ReadIo, W> for SyncMethod {
         ensures sees { OwnerKnowsClaimed reference actor.old.known actor.new.known }
     {
         table.try_execute(rt, actor, reference, runner);
+    }
+
+    fn batch_submitted<E: Execute<ReadIo, W>, T: Wait>(
+        &mut self,
+        rt: &T,
+        table: &Table<ReadIo, W>,
+        actor: &mut Actor<ReadIo, W>,
+        runner: &mut E,
+        references: &[WaitRef],
+    )
+        requires table { IsActorOf table.now actor.old }
+        requires told { (E.told runner.old ≡ W.told) × (E.relations runner.old ≡ W.relations) }
+        requires range { All (λ t. t.handle < W.handles) references.now }
+        ensures same { IsSameActor actor.old actor.new }
+        ensures told { (E.told runner.new ≡ E.told runner.old)
+            × (E.relations runner.new ≡ E.relations runner.old) }
+        ensures marks { ExecutesAll [] actor.old.known actor.new.known (E.reads runner.old)
+            (E.reads runner.new) (E.faults runner.old) (E.faults runner.new) }
+        ensures sees { All (λ t. OwnerKnowsClaimed t actor.old.known actor.new.known)
+            references.now }
+    {
+        for reference in references {
+            table.try_execute(rt, actor, *reference, runner);
+        }
     }
 }

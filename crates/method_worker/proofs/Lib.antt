@@ -2,4 +2,3 @@ mod StepsKeepBalance
 mod StepsKeepClosingWord
 pub mod SeatPopsInOrder
 mod WorkerStepsInOrder
-mod OwnClaimsKnown

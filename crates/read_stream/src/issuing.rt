@@ -1,6 +1,6 @@
 //! The calls that start a stream's I/Os.
 ghost use Rattle.std.specs.Prelude.{◌≡◌, ◌≤◌, ◌<◌, ◌+◌, ◌^◌, [], ◌∷◌, ◌++◌, length, List, ℕ};
-ghost use Rattle.std.specs.Prelude.{slice_get, Some};
+ghost use Rattle.std.specs.Prelude.{slice_get, Some, map, true, false};
 ghost use Rattle.std.specs.List.{All};
 ghost use Rattle.aio_word.specs.declared.WaitRef.{WaitRef};
 ghost use Rattle.aio_word.specs.Stands.{IsIn};
@@ -8,6 +8,8 @@ ghost use Rattle.aio_word.specs.Tokens.{IsStaged};
 ghost use Rattle.read_stream.specs.IoContexts.{IsValidContext, ContextAdvanced};
 ghost use Rattle.aio_handle.specs.ContractViews.{IsActorOf};
 ghost use Rattle.aio_handle.specs.Execution.{ExecutesAll};
+ghost use Rattle.aio_handle.specs.ClaimAttempt.{OwnerKnowsClaimed};
+ghost use Rattle.aio_batch.specs.Heard.{AppendsHeard};
 ghost use Rattle.aio_callback.specs.ReadIoView.{ReadIoView, with_aim};
 ghost use Rattle.aio_callback.specs.StreamOutcomes.{stream_ids};
 ghost use Rattle.read_plan.specs.declared.runs.Run.{Run};
@@ -100,6 +102,10 @@ fn begin<W: World, M: Method<ReadIo, W>, E: Execute<ReadIo, W>, T: Wait>(
     ensures marks { ExecutesAll [] context.old.actor.now.known context.new.actor.now.known
         (E.reads context.old.runner.now) (E.reads context.new.runner.now)
         (E.faults context.old.runner.now) (E.faults context.new.runner.now) }
+    ensures heard { alone ≡ false → AppendsHeard (M.heard context.old.method.now)
+        (M.heard context.new.method.now) references.now }
+    ensures sees { alone ≡ true → All (λ t. OwnerKnowsClaimed t context.old.actor.now.known
+        context.new.actor.now.known) references.now }
 {
     let table = context.table;
     if alone {
@@ -128,6 +134,8 @@ impl<W: World> Reads<W> {
         ensures none { self.new.batch ≡ [] }
         ensures same { SameReads scope.now context.old.actor.now.known
             context.new.actor.now.known self.old self.new }
+        ensures heard { alone ≡ false → AppendsHeard (M.heard context.old.method.now)
+            (M.heard context.new.method.now) (map (λ t. t.0) self.old.batch) }
     {
         if self.batch.len() == 0 {
             return;

@@ -8,7 +8,7 @@ use Rattle.aio_word.specs.declared.WaitRef.{WaitRef}
 use Rattle.aio_handle.proofs.ExecutionsCompose.{executes_nothing, executes_then}
 use Rattle.aio_handle.proofs.ListsGrow.{appends-none}
 use Rattle.aio_handle.specs.ClaimAttempt.{OwnerKnowsClaimed}
-use Rattle.method_worker.proofs.OwnClaimsKnown.{claimed-more}
+use Rattle.aio_batch.proofs.OwnClaimsKnown.{claimed-more}
 use Rattle.method_worker.proofs.method.WorkerMethodMethodReadIo.batch_submitted.Goals as goal
 
 pub loop-reference-init : goal.loop-reference-init

@@ -1,7 +1,9 @@
 use Rattle.std.proofs.Common.{◌≡◌, [], ◌∷◌, ◌++◌, length, List, ap, sym, subst, arith, refl}
-use Rattle.std.proofs.Common.{ℕ, ◌+◌, ◌<◌, ◌∙◌, length-append, take, rules}
-use Rattle.std.proofs.lemmas.List.{length-set, take_more_set}
+use Rattle.std.proofs.Common.{ℕ, ◌+◌, ◌<◌, ◌∙◌, length-append, take, rules, map, append_assoc, append-nil}
+use Rattle.std.proofs.lemmas.List.{length-set, take_more_set, nil_from_length}
 use Rattle.std.proofs.lemmas.List.Elements.{All-push}
+use Rattle.aio_batch.specs.Heard.{AppendsHeard}
+use Rattle.aio_batch.proofs.HeardInOrder.{heard-nothing}
 use Rattle.aio_batch.specs.NextSubmission.{IsNextSubmission}
 use Rattle.aio_word.specs.declared.WaitRef.{WaitRef}
 use Rattle.aio_word.specs.declared.Known.{Known}
@@ -33,6 +35,8 @@ loop-token-init g c = record {
   size = refl;
   few = (let held = c.len.ensures.held in let room = c.len.ensures.room in omega arith);
   range = λ k d less. absurd (omega (arith, less));
+  method = refl;
+  taken = refl;
 }
 
 -- the batch has one token fewer
@@ -42,6 +46,20 @@ one-less : {R : Type 0} (aim_in : R → List ℕ) (before after : List (WaitRef 
 one-less {R} aim_in before after t p q a b d e n =
     let whole : length before ≡ length (n.token ∷ after) =
     ap (λ (z : List (WaitRef × R)). length z) n.first in omega arith
+
+-- the references that were taken off, and those of the batch behind them
+one-taken : {R : Type 0} (aim_in : R → List ℕ) (front : List WaitRef)
+    (before after : List (WaitRef × R)) (t : WaitRef) (p q : Known) (a b d e : ℕ)
+    → IsNextSubmission aim_in before after t p q a b d e
+    → (front ++ t ∷ []) ++ map (λ (u : WaitRef × R). u.0) after
+    ≡ front ++ map (λ (u : WaitRef × R). u.0) before
+one-taken {R} aim_in front before after t p q a b d e n =
+    let whole : map (λ (u : WaitRef × R). u.0) before
+    ≡ n.token.0 ∷ map (λ (u : WaitRef × R). u.0) after =
+    ap (λ (z : List (WaitRef × R)). map (λ (u : WaitRef × R). u.0) z) n.first in
+    append_assoc front (t ∷ []) _
+    ∙ ap (λ (z : List WaitRef). front ++ z)
+    (ap (λ (z : WaitRef). z ∷ map (λ (u : WaitRef × R). u.0) after) n.reference ∙ sym whole)
 
 pub bounds-references-submitted : goal.bounds-references-submitted
 bounds-references-submitted g c =
@@ -106,6 +124,11 @@ loop-token-preserved g c =
           (All-push (λ (u : WaitRef). u.handle < g.W.World.handles)
           (take c.loop-token.submitted c.loop-token.references) c.reference.result inv.range
           (search rules));
+      method = inv.method;
+      taken = rw (take_more_set c.loop-token.references c.loop-token.submitted c.reference.result
+          (let few = inv.few in let size = inv.size in omega arith))
+          (rw c.reference.ensures (one-taken record_aim (take c.loop-token.submitted c.loop-token.references) s.batch after
+          t p q _ _ _ _ n ∙ inv.taken));
     }
 
 pub returns-clause-context_advanced : goal.returns-clause-context_advanced
@@ -137,6 +160,24 @@ returns-clause-same g c =
           (subst (λ (z : ActorView). IsIn x z.known.aims) (sym none.2) i)) refl refl none.1 refl
           (inv.runs given runs f);
     }
+
+pub returns-clause-heard : goal.returns-clause-heard
+returns-clause-heard g c shared =
+    let inv = c.loop-token.invariant in
+    let front : List WaitRef = take c.loop-token.submitted c.loop-token.references in
+    let whole = sym (append-nil front)
+    ∙ (ap (λ (z : List (WaitRef × ReadIoView)). front ++ map (λ (u : WaitRef × ReadIoView). u.0) z)
+    (sym c.in_default.ensures.none.0) ∙ inv.taken) in
+    subst (λ (z : List WaitRef). AppendsHeard (g.M.Method.heard c.args.context.now.method.now)
+    (g.M.Method.heard c.begin.new.context.method.now) z) whole
+    (subst (λ (z : g.row.M.Denot). AppendsHeard (g.M.Method.heard z)
+    (g.M.Method.heard c.begin.new.context.method.now) front) inv.method
+    (c.begin.ensures.heard shared))
+
+pub returns-then-len-eq0-clause-heard : goal.returns-then-len-eq0-clause-heard
+returns-then-len-eq0-clause-heard g c shared =
+    rw (nil_from_length c.args.self.now.batch (sym c.len.ensures.held ∙ c.if-len-eq0.true))
+    (heard-nothing (g.M.Method.heard c.args.context.now.method.now))
 
 pub returns-then-len-eq0-clause-same : goal.returns-then-len-eq0-clause-same
 returns-then-len-eq0-clause-same g c = same_reads_refl c.args.scope.now _ c.args.self.now

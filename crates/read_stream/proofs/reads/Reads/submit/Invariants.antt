@@ -1,4 +1,4 @@
-use Rattle.std.proofs.Common.{◌≡◌, ℕ, ◌+◌, ◌≤◌, ◌<◌, length, List, take}
+use Rattle.std.proofs.Common.{◌≡◌, ℕ, ◌+◌, ◌≤◌, ◌<◌, ◌++◌, length, List, take, map}
 use Rattle.std.specs.List.{All}
 use Rattle.read_plan.specs.declared.runs.Run.{Run}
 use Rattle.read_stream.specs.IoContexts.{IsValidContext, ContextAdvanced}
@@ -19,6 +19,9 @@ invariant-loop-token g l = record {
   size : length l.references ≡ 32;
   few : l.submitted + length l.self.batch ≤ 32;
   range : All (λ t. t.handle < g.W.World.handles) (take l.submitted l.references);
+  method : l.context.method.now ≡ l.initial.context.method.now;
+  taken : take l.submitted l.references ++ map (λ t. t.0) l.self.batch
+      ≡ map (λ t. t.0) l.initial.self.batch;
 }
 
 abbrev pub decreases-loop-token : goal.decreases-loop-token
