@@ -1,5 +1,5 @@
 //! Blocks one after the other.
-ghost use Rattle.std.specs.Prelude.{◌≡◌, ◌+◌, ◌^◌, ◌≤◌};
+ghost use Rattle.std.specs.Prelude.{◌≡◌, ◌+◌, ◌^◌, ◌≤◌, length};
 ghost use Rattle.block_source.specs.BlocksLeft.{consecutive_blocks};
 
 use crate::source::BlockSource;
@@ -28,7 +28,8 @@ impl Range {
     /// A source of `count` blocks from `first` on.
     pub fn new(first: u32, count: u32) -> Range
         requires { first + count ≤ 2 ^ 32 }
-        ensures { result ≡ consecutive_blocks first count }
+        ensures blocks { result ≡ consecutive_blocks first count }
+        ensures count { length result ≡ count }
     {
         Range {
             next: first as u64,

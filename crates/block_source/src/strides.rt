@@ -1,5 +1,5 @@
 //! Blocks at equal distances.
-ghost use Rattle.std.specs.Prelude.{◌≡◌, ℕ, ◌+◌, ◌*◌, ◌^◌, ◌<◌};
+ghost use Rattle.std.specs.Prelude.{◌≡◌, ℕ, ◌+◌, ◌*◌, ◌^◌, ◌<◌, length};
 ghost use Rattle.block_source.specs.BlocksLeft.{strided_blocks};
 
 use crate::source::BlockSource;
@@ -29,7 +29,8 @@ impl Stepped {
     /// A source of `count` blocks from `first` on, `step` apart.
     pub fn new(first: u32, step: u32, count: u32) -> Stepped
         requires { (i : ℕ) → i < count → first + i * step < 2 ^ 32 }
-        ensures { result ≡ strided_blocks first step count }
+        ensures blocks { result ≡ strided_blocks first step count }
+        ensures count { length result ≡ count }
     {
         Stepped {
             next: first as u64,

@@ -1,0 +1,9 @@
+use Rattle.std.proofs.Common.{ℕ, ◌+◌, ◌*◌}
+use Rattle.std.proofs.lemmas.List.FromFn.{length-map-range_with_len}
+use Rattle.block_source.specs.BlocksLeft.{block_alone}
+use Rattle.block_source.proofs.strides.Stepped.new.Goals as goal
+
+pub returns-clause-count : goal.returns-clause-count
+returns-clause-count c =
+    length-map-range_with_len (λ (i : ℕ). block_alone (c.args.first + i * c.args.step)) 0
+    c.args.count
