@@ -19,10 +19,10 @@ use Rattle.heap_scan.specs.Job.{IsJobAnswer, endings_of}
 use Rattle.heap_scan.specs.Listing.{listing}
 use Rattle.heap_scan.specs.Warnings.{warnings_of}
 use Rattle.heap_scan.specs.declared.sums.PageSums.{PageSums}
-use Rattle.scan_rounds.specs.Jobs.{entries_of_job, answered_ending, unread_job_count, is_unread}
-use Rattle.scan_rounds.specs.declared.job.Ending.{Ending as JobEnding}
-use Rattle.scan_rounds.specs.declared.job.Ending.TheVariants as ending
-use Rattle.scan_rounds.specs.declared.job.Job.{Job}
+use Rattle.scan_jobs.specs.Jobs.{entries_of_job, answered_ending, unread_job_count, is_unread}
+use Rattle.scan_jobs.specs.declared.job.Ending.{Ending as JobEnding}
+use Rattle.scan_jobs.specs.declared.job.Ending.TheVariants as ending
+use Rattle.scan_jobs.specs.declared.job.Job.{Job}
 use Rattle.aio_disk.specs.Sink.{SinkGrew, SinkGrewByPrefix}
 use Rattle.request_list.specs.RequestList.{Page, Request, blocks_of_parts, request}
 use Rattle.run_report.specs.Outcomes.{outcome_ending, is_refused, named_block, is_output_cut_off}

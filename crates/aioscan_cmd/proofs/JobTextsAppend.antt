@@ -7,10 +7,10 @@ use Rattle.std.proofs.lemmas.List.Concat.{flat_map-cons}
 use Rattle.std.proofs.lemmas.List.Sums.{sum_by-cons, get_or-le-sum_by}
 use Rattle.page_check.specs.Told.{Told}
 use Rattle.scan_settings.specs.ListOptions.{ListOptions}
-use Rattle.scan_rounds.specs.Jobs.{JobIsListed, AllJobsAnswered, entries_of_job, unread_job_count}
-use Rattle.scan_rounds.specs.Jobs.{is_unread, count_unskipped}
-use Rattle.scan_rounds.specs.BlockFilter.{BlockFilter}
-use Rattle.scan_rounds.specs.declared.job.Job.{Job}
+use Rattle.scan_jobs.specs.Jobs.{JobIsListed, AllJobsAnswered, entries_of_job, unread_job_count}
+use Rattle.scan_jobs.specs.Jobs.{is_unread, count_unskipped}
+use Rattle.scan_jobs.specs.BlockFilter.{BlockFilter}
+use Rattle.scan_jobs.specs.declared.job.Job.{Job}
 use Rattle.heap_scan.specs.Sums.{sums_joined}
 use Rattle.heap_scan.specs.declared.sums.PageSums.{PageSums}
 use Rattle.run_report.specs.Output.{format_of_options}

@@ -5,9 +5,9 @@ use Rattle.std.specs.Prelude.{Option, None}
 use Rattle.page_check.specs.Told.{Told}
 use Rattle.aio_disk.specs.declared.sink.Sink.{Ghosts as SinkGhosts}
 use Rattle.scan_settings.specs.ListOptions.{ListOptions}
-use Rattle.scan_rounds.specs.Jobs.{AllJobsAnswered}
-use Rattle.scan_rounds.specs.BlockFilter.{BlockFilter}
-use Rattle.scan_rounds.specs.declared.job.Job.{Job}
+use Rattle.scan_jobs.specs.Jobs.{AllJobsAnswered}
+use Rattle.scan_jobs.specs.BlockFilter.{BlockFilter}
+use Rattle.scan_jobs.specs.declared.job.Job.{Job}
 use Rattle.request_list.specs.RequestList.{Part}
 use Rattle.run_report.specs.Output.{WriteFaultsCounted, format_of_options}
 use Rattle.aioscan_cmd.specs.ListerState.{AllJobTextsWritten, ListerIsOver}

@@ -8,16 +8,16 @@ use Rattle.page_check.specs.Told.{Told}
 use Rattle.vis_map.specs.Bits.{Map}
 use Rattle.vis_map.specs.MapRequest.{unmarked_entries}
 use Rattle.vis_map.specs.declared.map.Skip.{Skip}
-use Rattle.scan_rounds.specs.Jobs.{answered_ending, unread_ending_count}
+use Rattle.scan_jobs.specs.Jobs.{answered_ending, unread_ending_count}
 use Rattle.scan_settings.specs.ListOptions.{ListOptions}
 use Rattle.scan_settings.specs.Settings.{page_rules}
 use Rattle.scan_rounds.specs.Rounds.{MapPagesConsumed}
-use Rattle.scan_rounds.specs.BlockFilter.{BlockFilter, unskipped_entries}
-use Rattle.scan_rounds.specs.ConsumedPages.{MapHasPages, PagesConsumed}
+use Rattle.scan_jobs.specs.BlockFilter.{BlockFilter, unskipped_entries}
+use Rattle.scan_jobs.specs.ConsumedPages.{MapHasPages, PagesConsumed}
 use Rattle.scan_rounds.proofs.ReadMaps.{map_taken}
 use Rattle.scan_rounds.specs.declared.backend.Backend.{Backend}
-use Rattle.scan_rounds.specs.declared.job.Ending.{Ending as JobEnding}
-use Rattle.scan_rounds.specs.declared.job.Ending.TheVariants as ending
+use Rattle.scan_jobs.specs.declared.job.Ending.{Ending as JobEnding}
+use Rattle.scan_jobs.specs.declared.job.Ending.TheVariants as ending
 use Rattle.command_line.specs.Command.{IsMapOf, MapOption, options_of_settings}
 use Rattle.request_list.specs.RemainingRequests.{AsksForMap, map_page_count, resolved_request_list}
 use Rattle.request_list.specs.RemainingRequests.{resolved_parts, resolved_request_parts}

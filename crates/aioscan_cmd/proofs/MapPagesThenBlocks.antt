@@ -17,12 +17,12 @@ use Rattle.heap_scan.specs.Sums.{sums_of}
 use Rattle.heap_tuple.specs.Listing.{text_with}
 use Rattle.vis_map.specs.Bits.{Map}
 use Rattle.vis_map.specs.MapRequest.{greatest_of, unmarked_entries, needed_pages}
-use Rattle.scan_rounds.specs.Jobs.{answered_ending}
+use Rattle.scan_jobs.specs.Jobs.{answered_ending}
 use Rattle.scan_settings.specs.ListOptions.{ListOptions}
-use Rattle.scan_rounds.specs.ConsumedPages.{MapHasPages, PagesConsumed}
-use Rattle.scan_rounds.specs.declared.job.Ending.{Ending as JobEnding}
-use Rattle.scan_rounds.proofs.Blocks.{answer_wider}
-use Rattle.scan_rounds.proofs.JobsListed.{none_warned}
+use Rattle.scan_jobs.specs.ConsumedPages.{MapHasPages, PagesConsumed}
+use Rattle.scan_jobs.specs.declared.job.Ending.{Ending as JobEnding}
+use Rattle.scan_rounds.proofs.WiderAnswers.{answer_wider}
+use Rattle.scan_jobs.proofs.JobsListed.{none_warned}
 use Rattle.command_line.specs.Command.{MapOption}
 use Rattle.aioscan_cmd.specs.ListerState.{outcome_of_ending, unskipped_parts}
 use Rattle.run_report.specs.Output.{IsOutput, ListFormat, format_of_options}

@@ -2,9 +2,9 @@
 use Rattle.std.proofs.Common.{◌≡◌, List, [], ◌∷◌, ◌++◌, refl, sym, ap, ◌∙◌}
 use Rattle.std.specs.Prelude.{Option, Some, None}
 use Rattle.std.proofs.lemmas.List.{map-append}
-use Rattle.scan_rounds.specs.Jobs.{entries_of_job}
-use Rattle.scan_rounds.specs.BlockFilter.{BlockFilter, unskipped_entries}
-use Rattle.scan_rounds.specs.declared.job.Job.{Job}
+use Rattle.scan_jobs.specs.Jobs.{entries_of_job}
+use Rattle.scan_jobs.specs.BlockFilter.{BlockFilter, unskipped_entries}
+use Rattle.scan_jobs.specs.declared.job.Job.{Job}
 use Rattle.aioscan_cmd.specs.ListerState.{unskipped_job_parts, unskipped_job_requests}
 use Rattle.aioscan_cmd.specs.ListerState.{unskipped_parts}
 use Rattle.request_list.specs.RemainingRequests.{resolved_parts, resolved_requests}

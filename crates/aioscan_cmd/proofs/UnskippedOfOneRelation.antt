@@ -2,9 +2,9 @@
 use Rattle.std.proofs.Common.{◌≡◌, ℕ, List}
 use Rattle.std.specs.Prelude.{Option, Some, None}
 use Rattle.std.proofs.lemmas.List.Elements.{All-filter}
-use Rattle.scan_rounds.specs.Jobs.{entries_of_job}
-use Rattle.scan_rounds.specs.BlockFilter.{BlockFilter, is_unskipped, unskipped_entries}
-use Rattle.scan_rounds.specs.declared.job.Job.{Job}
+use Rattle.scan_jobs.specs.Jobs.{entries_of_job}
+use Rattle.scan_jobs.specs.BlockFilter.{BlockFilter, is_unskipped, unskipped_entries}
+use Rattle.scan_jobs.specs.declared.job.Job.{Job}
 use Rattle.request_list.specs.RequestList.{Request, block_range}
 use Rattle.request_list.proofs.BlocksOfOneRelation.{AreOf, range_of}
 

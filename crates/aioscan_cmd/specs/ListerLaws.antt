@@ -4,8 +4,8 @@ use Rattle.std.specs.Prelude.{Option, None}
 use Rattle.std.proofs.lemmas.List.{map-append}
 use Rattle.page_check.specs.Told.{Told}
 use Rattle.aio_disk.specs.declared.sink.Sink.{Ghosts as SinkGhosts}
-use Rattle.scan_rounds.specs.Jobs.{entries_of_job}
-use Rattle.scan_rounds.specs.declared.job.Job.{Job}
+use Rattle.scan_jobs.specs.Jobs.{entries_of_job}
+use Rattle.scan_jobs.specs.declared.job.Job.{Job}
 use Rattle.heap_scan.specs.Sums.{no_sums}
 use Rattle.heap_scan.specs.declared.sums.PageSums.{PageSums}
 use Rattle.request_list.specs.RequestList.{Part}

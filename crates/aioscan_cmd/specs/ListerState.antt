@@ -4,11 +4,11 @@ use Rattle.std.specs.List.{flat_map}
 use Rattle.page_check.specs.Told.{Told}
 use Rattle.aio_disk.specs.declared.sink.Sink.{Ghosts as SinkGhosts}
 use Rattle.scan_settings.specs.ListOptions.{ListOptions, list_options}
-use Rattle.scan_rounds.specs.Jobs.{JobIsListed, AllJobsAnswered, entries_of_job}
-use Rattle.scan_rounds.specs.BlockFilter.{BlockFilter, unskipped_entries, filter_of_skipping}
-use Rattle.scan_rounds.specs.declared.job.Ending.{Ending as JobEnding}
-use Rattle.scan_rounds.specs.declared.job.Ending.TheVariants as ending
-use Rattle.scan_rounds.specs.declared.job.Job.{Job}
+use Rattle.scan_jobs.specs.Jobs.{JobIsListed, AllJobsAnswered, entries_of_job}
+use Rattle.scan_jobs.specs.BlockFilter.{BlockFilter, unskipped_entries, filter_of_skipping}
+use Rattle.scan_jobs.specs.declared.job.Ending.{Ending as JobEnding}
+use Rattle.scan_jobs.specs.declared.job.Ending.TheVariants as ending
+use Rattle.scan_jobs.specs.declared.job.Job.{Job}
 use Rattle.heap_scan.specs.Sums.{no_sums}
 use Rattle.heap_scan.specs.declared.sums.PageSums.{PageSums}
 use Rattle.request_list.specs.RequestList.{Request, Part}

@@ -2,7 +2,7 @@
 ghost use Rattle.std.specs.Prelude.{◌≡◌, ◌≢◌, ◌≤◌, ◌++◌, ◌∷◌, [], length, take, false, None};
 ghost use Rattle.std.specs.Prelude.{IsErrOf, OnErr};
 ghost use Rattle.std.specs.List.{All};
-ghost use Rattle.scan_rounds.specs.Jobs.{IsNewJob, unread_job_count};
+ghost use Rattle.scan_jobs.specs.Jobs.{IsNewJob, unread_job_count};
 ghost use Rattle.run_report.specs.Output.{WriteFaultsCounted};
 ghost use Rattle.aioscan_cmd.specs.ListerState.{unskipped_job_parts};
 ghost use Rattle.run_report.specs.Outcomes.{unread_count};
@@ -156,7 +156,7 @@ fn write_jobs<O: Sink, E: Sink>(
 impl<'a, 'e, 'm, 'w, W: World, O: Sink, E: Sink> JobSource<W> for Lister<'a, 'e, 'm, 'w, W, O, E> {
     ghost use Rattle.std.specs.Prelude.{length};
     ghost use Rattle.std.proofs.Common.{refl, ◌∙◌};
-    ghost use Rattle.scan_rounds.specs.BlockFilter.{unskipped_entries};
+    ghost use Rattle.scan_jobs.specs.BlockFilter.{unskipped_entries};
     ghost use Rattle.request_list.specs.RequestList.{blocks_of_parts};
     ghost use Rattle.run_report.specs.Outcomes.{unread_count};
     ghost use Rattle.aioscan_cmd.specs.ListerState.{lister_options, lister_filter};

@@ -17,7 +17,7 @@ use Rattle.aio_word.specs.Tokens.{failed_result_count, is_failed_result}
 use Rattle.aio_word.proofs.ReplacedElement.{sum-in}
 use Rattle.aio_handle.specs.ContractViews.{ActorView}
 use Rattle.aio_callback.specs.ReadIoView.{ReadIoView}
-use Rattle.read_stream.specs.StreamAnswers.{IsFailedRead, MayBeUnread}
+use Rattle.read_stream.specs.FailedReads.{IsFailedRead, MayBeUnread}
 use Rattle.read_stream.specs.StreamViews.{StreamView, HasNoFailedRead, IsStreamAnswer}
 use Rattle.read_stream.specs.StreamViews.{IsSynchronousAnswer}
 use Rattle.read_stream.specs.ActorProgress.{ActorAdvanced}

@@ -1,7 +1,7 @@
 use Rattle.std.proofs.Common.{◌∙◌, List, length, rules, refl, sym, ap, arith, subst}
 use Rattle.page_check.specs.declared.rules.PageRules.{PageRules}
 use Rattle.scan_settings.specs.ListOptions.{ListOptions, list_options}
-use Rattle.scan_rounds.specs.BlockFilter.{filter_of_skipping, unskipped_entries}
+use Rattle.scan_jobs.specs.BlockFilter.{filter_of_skipping, unskipped_entries}
 use Rattle.command_line.specs.Command.{options_of_settings}
 use Rattle.request_list.specs.RemainingRequests.{resolved_parts, resolved_settings}
 use Rattle.request_list.specs.RequestList.{Part, Request, blocks_of_parts}

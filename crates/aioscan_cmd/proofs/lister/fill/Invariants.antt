@@ -1,6 +1,6 @@
 use Rattle.std.proofs.Common.{◌≡◌, ◌++◌, length, take, None}
 use Rattle.std.specs.List.{All}
-use Rattle.scan_rounds.specs.Jobs.{IsNewJob}
+use Rattle.scan_jobs.specs.Jobs.{IsNewJob}
 use Rattle.aioscan_cmd.specs.ListerState.{unskipped_job_parts}
 use Rattle.aioscan_cmd.proofs.lister.fill.Given as goal
 

@@ -1,6 +1,6 @@
 use Rattle.std.proofs.Common.{arith, ap, length, length-append, take, None}
-use Rattle.scan_rounds.specs.BlockFilter.{unskipped_entries}
-use Rattle.scan_rounds.proofs.UnskippedCount.{none_left_out}
+use Rattle.scan_jobs.specs.BlockFilter.{unskipped_entries}
+use Rattle.scan_jobs.proofs.UnskippedCount.{none_left_out}
 use Rattle.aioscan_cmd.specs.ListerState.{unskipped_job_requests, lister_filter}
 use Rattle.request_list.specs.RequestList.{blocks_of_parts}
 use Rattle.aioscan_cmd.proofs.JobTextsAppend.{requests_length}
