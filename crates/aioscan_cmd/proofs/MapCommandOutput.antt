@@ -22,7 +22,7 @@ use Rattle.command_line.specs.Command.{IsMapOf, MapOption, options_of_settings}
 use Rattle.request_list.specs.RemainingRequests.{AsksForMap, map_page_count, resolved_request_list}
 use Rattle.request_list.specs.RemainingRequests.{resolved_parts, resolved_request_parts}
 use Rattle.request_list.specs.RemainingRequests.{resolved_requests, resolved_settings}
-use Rattle.aioscan_cmd.specs.ListerState.{outcome_of_ending, unskipped_parts}
+use Rattle.lister.specs.ListerState.{outcome_of_ending, unskipped_parts}
 use Rattle.run_report.specs.Output.{IsOutput, command_format, format_of_options}
 use Rattle.request_list.specs.RequestList.{map_pages_known}
 use Rattle.request_list.specs.RequestList.{Part, Request, block_range, blocks_of_parts, with_map}
@@ -37,8 +37,8 @@ use Rattle.aioscan_cmd.proofs.MapPagesThenBlocks.{jobs_listed, format_with_map, 
 use Rattle.request_list.proofs.PartsOfRequests.{request_blocks}
 use Rattle.run_report.proofs.OutputsAppend.{lists_append, lists_more, lists_same}
 use Rattle.request_list.proofs.BlocksOfOneRelation.{AreOf}
-use Rattle.aioscan_cmd.proofs.UnskippedOfOneRelation.{unskipped_of_relation}
-use Rattle.aioscan_cmd.proofs.UnskippedBlocksAppend.{resolved_unskipped, unskipped_none}
+use Rattle.lister.proofs.UnskippedOfOneRelation.{unskipped_of_relation}
+use Rattle.lister.proofs.UnskippedBlocksAppend.{resolved_unskipped, unskipped_none}
 
 -- the words name a map
 pub asks_for_map : (a : ResolvedCommand) (found : Option MapOfWords) (option : MapOfWords)

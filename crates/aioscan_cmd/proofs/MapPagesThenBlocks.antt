@@ -24,7 +24,7 @@ use Rattle.scan_jobs.specs.declared.job.Ending.{Ending as JobEnding}
 use Rattle.scan_rounds.proofs.WiderAnswers.{answer_wider}
 use Rattle.scan_jobs.proofs.JobsListed.{none_warned}
 use Rattle.command_line.specs.Command.{MapOption}
-use Rattle.aioscan_cmd.specs.ListerState.{outcome_of_ending, unskipped_parts}
+use Rattle.lister.specs.ListerState.{outcome_of_ending, unskipped_parts}
 use Rattle.run_report.specs.Output.{IsOutput, ListFormat, format_of_options}
 use Rattle.request_list.specs.RequestList.{map_pages_known}
 use Rattle.request_list.specs.RequestList.{Page, Part, Request, block_range, blocks_of_parts}
@@ -32,7 +32,7 @@ use Rattle.request_list.specs.RequestList.{without_map_pages, with_map_part}
 use Rattle.run_report.specs.declared.report.Outcome.{Outcome}
 use Rattle.run_report.proofs.CutsInParts.{cut_in_text, stopped_by}
 use Rattle.run_report.proofs.SinkTextsAppend.{SinkGrew-nothing, SinkGrew-same}
-use Rattle.aioscan_cmd.proofs.JobTextOutput.{text_listed}
+use Rattle.lister.proofs.JobTextOutput.{text_listed}
 use Rattle.request_list.proofs.BlocksOfOneRelation.{AreOf, map_listing, other_listing, pages_are_of}
 use Rattle.request_list.proofs.BlocksOfOneRelation.{range_of, some_pages_of}
 

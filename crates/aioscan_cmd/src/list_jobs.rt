@@ -7,14 +7,14 @@ ghost use Rattle.command_line.specs.Command.{options_of_settings};
 ghost use Rattle.request_list.specs.RemainingRequests.{IsResolved, resolved_parts};
 ghost use Rattle.request_list.specs.RemainingRequests.{resolved_requests, resolved_settings};
 ghost use Rattle.run_report.specs.ErrorLine.{AppendsWarnings, error_stream};
-ghost use Rattle.aioscan_cmd.specs.ListerState.{unskipped_parts};
+ghost use Rattle.lister.specs.ListerState.{unskipped_parts};
 ghost use Rattle.run_report.specs.Output.{IsOutput, WriteFaultsCounted, format_of_options};
 ghost use Rattle.run_report.specs.Sums.{HasSums};
 
-use crate::lister::Lister;
 use crate::{Line, Outcome};
 use aio_disk::{Disk, Sink};
 use heap_scan::PageSums;
+use lister::Lister;
 use page_check::World;
 use request_list::{Cutter, ResolvedCommand};
 use scan_rounds::{MapFilter, Scan, end_borrow};

@@ -1,5 +1,5 @@
 -- What the inside of a stream answers, as its callers see it.
-use Rattle.std.proofs.Common.{◌≡◌, ◌<◌, ℕ, List, [], true, Bool, ap, append-nil, arith, length}
+use Rattle.std.proofs.Common.{◌≡◌, ◌<◌, ℕ, List, [], true, ap, append-nil, arith, length}
 use Rattle.std.proofs.Common.{refl, subst, sym}
 use Rattle.std.proofs.lemmas.List.{length-map}
 use Rattle.std.specs.Prelude.{Option, IfSome, slice_get}

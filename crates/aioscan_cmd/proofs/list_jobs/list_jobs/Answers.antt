@@ -6,13 +6,13 @@ use Rattle.command_line.specs.Command.{options_of_settings}
 use Rattle.request_list.specs.RemainingRequests.{resolved_parts, resolved_settings}
 use Rattle.request_list.specs.RequestList.{Part, Request, blocks_of_parts}
 use Rattle.run_report.specs.ErrorLine.{AppendsErrorText, error_stream}
-use Rattle.aioscan_cmd.specs.ListerState.{unskipped_parts}
+use Rattle.lister.specs.ListerState.{unskipped_parts}
 use Rattle.run_report.specs.Output.{IsOutput, WriteFaultsCounted, format_of_options}
 use Rattle.run_report.specs.Sums.{HasSums}
-use Rattle.aioscan_cmd.proofs.ListerJobsCompose.{all_listed, all_written}
-use Rattle.aioscan_cmd.proofs.JobSumsAdd.{summed_told, zero_sums}
+use Rattle.lister.proofs.ListerJobsCompose.{all_listed, all_written}
+use Rattle.lister.proofs.JobSumsAdd.{summed_told, zero_sums}
 use Rattle.request_list.proofs.RemainingRequestsStep.{resolved_blocks}
-use Rattle.aioscan_cmd.proofs.UnskippedBlocksAppend.{resolved_unskipped}
+use Rattle.lister.proofs.UnskippedBlocksAppend.{resolved_unskipped}
 use Rattle.aioscan_cmd.proofs.list_jobs.list_jobs.Goals as goal
 
 pub returns-clause-lists : goal.returns-clause-lists

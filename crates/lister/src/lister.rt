@@ -4,10 +4,10 @@ ghost use Rattle.std.specs.Prelude.{IsErrOf, OnErr};
 ghost use Rattle.std.specs.List.{All};
 ghost use Rattle.scan_jobs.specs.Jobs.{IsNewJob, unread_job_count};
 ghost use Rattle.run_report.specs.Output.{WriteFaultsCounted};
-ghost use Rattle.aioscan_cmd.specs.ListerState.{unskipped_job_parts};
+ghost use Rattle.lister.specs.ListerState.{unskipped_job_parts};
 ghost use Rattle.run_report.specs.Outcomes.{unread_count};
-ghost use Rattle.aioscan_cmd.specs.ListerState.{outcome_of_ending};
-ghost use Rattle.aioscan_cmd.specs.ListerState.{JobTextWritten, AllJobTextsWritten};
+ghost use Rattle.lister.specs.ListerState.{outcome_of_ending};
+ghost use Rattle.lister.specs.ListerState.{JobTextWritten, AllJobTextsWritten};
 ghost use Rattle.run_report.specs.ErrorLine.{AppendsErrorText, AppendsWarnings, error_stream};
 ghost use Rattle.aio_disk.specs.Counts.{CountRose};
 ghost use Rattle.aio_disk.specs.Sink.{SinkTakes};
@@ -15,32 +15,31 @@ ghost use Rattle.aio_disk.specs.declared.fault.WriteFault.TheVariants.{Device};
 ghost use Rattle.run_report.specs.Sums.{saturated_sums};
 ghost use Rattle.heap_scan.specs.Sums.{sums_joined};
 
-use crate::{Line, Outcome};
 use aio_disk::{Sink, WriteFault};
 use heap_scan::PageSums;
 use page_check::{PageRules, World};
 use request_list::Cutter;
-use run_report::write_warnings;
-use scan_rounds::{Ending, Job, JobSource, MapFilter};
+use run_report::{Line, Outcome, write_warnings};
+use scan_jobs::{Ending, Job, JobSource, MapFilter};
 
 /// What a run has still to list, and where to.
 #[derive(Drop)]
-pub(crate) struct Lister<'a, 'e, 'm, 'w, W: World, O: Sink, E: Sink> {
-    pub(crate) blocks: Cutter<'a, 'w, W>,
+pub struct Lister<'a, 'e, 'm, 'w, W: World, O: Sink, E: Sink> {
+    pub blocks: Cutter<'a, 'w, W>,
     /// The map by which blocks are left out, where there is one.
-    pub(crate) by_map: Option<MapFilter<'m>>,
-    pub(crate) out: &'a mut O,
-    pub(crate) err: &'e mut E,
+    pub by_map: Option<MapFilter<'m>>,
+    pub out: &'a mut O,
+    pub err: &'e mut E,
     /// How much of the warnings so far reached the error stream.
-    pub(crate) line: Line,
+    pub line: Line,
     /// How pages are read.
-    pub(crate) rules: PageRules,
+    pub rules: PageRules,
     /// Whether the headers of tuples are listed too.
-    pub(crate) tuples: bool,
+    pub tuples: bool,
     /// `Done` as long as nothing has ended the run.
-    pub(crate) outcome: Outcome,
+    pub outcome: Outcome,
     /// The sums over the pages of the jobs that were done.
-    pub(crate) sums: PageSums,
+    pub sums: PageSums,
 }
 
 // Puts the next blocks into jobs: so many.
@@ -60,7 +59,7 @@ fn fill<W: World>(blocks: &mut Cutter<'_, '_, W>, jobs: &mut [Job]) -> usize
 }
 
 /// The outcome where blocks of this relation ended so.
-pub(crate) fn outcome_of(relation: u32, ending: Ending) -> Outcome
+pub fn outcome_of(relation: u32, ending: Ending) -> Outcome
     ensures { result ≡ outcome_of_ending relation ending }
 {
     match ending {
@@ -159,9 +158,9 @@ impl<'a, 'e, 'm, 'w, W: World, O: Sink, E: Sink> JobSource<W> for Lister<'a, 'e,
     ghost use Rattle.scan_jobs.specs.BlockFilter.{unskipped_entries};
     ghost use Rattle.request_list.specs.RequestList.{blocks_of_parts};
     ghost use Rattle.run_report.specs.Outcomes.{unread_count};
-    ghost use Rattle.aioscan_cmd.specs.ListerState.{lister_options, lister_filter};
-    ghost use Rattle.aioscan_cmd.specs.ListerState.{ListerIsOver, CutsOffJobs, PreservesListing};
-    ghost use Rattle.aioscan_cmd.specs.ListerLaws.{cuts_then, none_put};
+    ghost use Rattle.lister.specs.ListerState.{lister_options, lister_filter};
+    ghost use Rattle.lister.specs.ListerState.{ListerIsOver, CutsOffJobs, PreservesListing};
+    ghost use Rattle.lister.specs.ListerLaws.{cuts_then, none_put};
 
     ghost blocks_left = { λ l. length (blocks_of_parts l.blocks) };
 

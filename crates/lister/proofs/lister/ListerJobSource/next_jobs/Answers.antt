@@ -1,11 +1,11 @@
 use Rattle.std.proofs.Common.{arith, ap, length, length-append, take, None}
 use Rattle.scan_jobs.specs.BlockFilter.{unskipped_entries}
 use Rattle.scan_jobs.proofs.UnskippedCount.{none_left_out}
-use Rattle.aioscan_cmd.specs.ListerState.{unskipped_job_requests, lister_filter}
+use Rattle.lister.specs.ListerState.{unskipped_job_requests, lister_filter}
 use Rattle.request_list.specs.RequestList.{blocks_of_parts}
-use Rattle.aioscan_cmd.proofs.JobTextsAppend.{requests_length}
-use Rattle.aioscan_cmd.proofs.UnskippedBlocksAppend.{blocks_after_cut}
-use Rattle.aioscan_cmd.proofs.lister.ListerJobSource.next_jobs.Goals as goal
+use Rattle.lister.proofs.JobTextsAppend.{requests_length}
+use Rattle.lister.proofs.UnskippedBlocksAppend.{blocks_after_cut}
+use Rattle.lister.proofs.lister.ListerJobSource.next_jobs.Goals as goal
 
 pub returns-in-Done-clause-left : goal.returns-in-Done-clause-left
 returns-in-Done-clause-left g c =

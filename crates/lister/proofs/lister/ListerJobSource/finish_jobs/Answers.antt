@@ -1,7 +1,7 @@
 use Rattle.std.proofs.Common.{refl, rules, ◌∙◌}
-use Rattle.aioscan_cmd.specs.ListerLaws.{listing_kept}
-use Rattle.aioscan_cmd.proofs.ListerJobsCompose.{cuts_before, jobs_written}
-use Rattle.aioscan_cmd.proofs.lister.ListerJobSource.finish_jobs.Goals as goal
+use Rattle.lister.specs.ListerLaws.{listing_kept}
+use Rattle.lister.proofs.ListerJobsCompose.{cuts_before, jobs_written}
+use Rattle.lister.proofs.lister.ListerJobSource.finish_jobs.Goals as goal
 
 pub returns-in-Done-clause-follows : goal.returns-in-Done-clause-follows
 returns-in-Done-clause-follows g c = λ was asked later gives answered.

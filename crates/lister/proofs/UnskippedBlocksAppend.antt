@@ -5,8 +5,8 @@ use Rattle.std.proofs.lemmas.List.{map-append}
 use Rattle.scan_jobs.specs.Jobs.{entries_of_job}
 use Rattle.scan_jobs.specs.BlockFilter.{BlockFilter, unskipped_entries}
 use Rattle.scan_jobs.specs.declared.job.Job.{Job}
-use Rattle.aioscan_cmd.specs.ListerState.{unskipped_job_parts, unskipped_job_requests}
-use Rattle.aioscan_cmd.specs.ListerState.{unskipped_parts}
+use Rattle.lister.specs.ListerState.{unskipped_job_parts, unskipped_job_requests}
+use Rattle.lister.specs.ListerState.{unskipped_parts}
 use Rattle.request_list.specs.RemainingRequests.{resolved_parts, resolved_requests}
 use Rattle.request_list.specs.RequestList.{Request, Part, blocks_of_parts}
 use Rattle.request_list.specs.declared.cutter.ResolvedCommand.{ResolvedCommand}

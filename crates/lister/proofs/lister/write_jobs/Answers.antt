@@ -1,9 +1,9 @@
 use Rattle.std.proofs.Common.{arith}
 use Rattle.run_report.proofs.OutputsAppend.{written_then}
-use Rattle.aioscan_cmd.proofs.JobTextsAppend.{next_done, next_stopped, all_listed, among_all}
-use Rattle.aioscan_cmd.proofs.JobTextsAppend.{none_listed}
+use Rattle.lister.proofs.JobTextsAppend.{next_done, next_stopped, all_listed, among_all}
+use Rattle.lister.proofs.JobTextsAppend.{none_listed}
 use Rattle.run_report.proofs.ErrorTextsAppend.{warns_also, warns_none, warns_then}
-use Rattle.aioscan_cmd.proofs.lister.write_jobs.Goals as goal
+use Rattle.lister.proofs.lister.write_jobs.Goals as goal
 
 pub loop-job-init : goal.loop-job-init
 loop-job-init g c = record { lists = warns_none _ _ (none_listed _ _ _); later = omega arith }

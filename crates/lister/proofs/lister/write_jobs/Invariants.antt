@@ -1,7 +1,7 @@
 use Rattle.std.proofs.Common.{◌≤◌}
 use Rattle.run_report.specs.ErrorLine.{AppendsWarnings, error_stream}
-use Rattle.aioscan_cmd.proofs.JobTextsAppend.{FirstListed}
-use Rattle.aioscan_cmd.proofs.lister.write_jobs.Given as goal
+use Rattle.lister.proofs.JobTextsAppend.{FirstListed}
+use Rattle.lister.proofs.lister.write_jobs.Given as goal
 
 abbrev pub invariant-loop-job : goal.invariant-loop-job
 invariant-loop-job g l = record {

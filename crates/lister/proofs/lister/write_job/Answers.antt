@@ -1,8 +1,8 @@
 use Rattle.std.proofs.Common.{rules}
-use Rattle.aioscan_cmd.proofs.JobTextOutput.{job_written, job_unwritten, job_out_of_memory}
-use Rattle.aioscan_cmd.proofs.JobTextOutput.{one_unread, stopped_by_job}
+use Rattle.lister.proofs.JobTextOutput.{job_written, job_unwritten, job_out_of_memory}
+use Rattle.lister.proofs.JobTextOutput.{one_unread, stopped_by_job}
 use Rattle.run_report.proofs.ErrorTextsAppend.{warns_none}
-use Rattle.aioscan_cmd.proofs.lister.write_job.Goals as goal
+use Rattle.lister.proofs.lister.write_job.Goals as goal
 
 pub returns-in-Ok-clause-lists : goal.returns-in-Ok-clause-lists
 returns-in-Ok-clause-lists g c = record {

@@ -15,12 +15,12 @@ use Rattle.heap_scan.specs.Sums.{sums_joined}
 use Rattle.heap_scan.specs.declared.sums.PageSums.{PageSums}
 use Rattle.run_report.specs.Output.{format_of_options}
 use Rattle.run_report.specs.Sums.{IsSummedOutput, saturated_sums}
-use Rattle.aioscan_cmd.specs.ListerState.{unskipped_job_requests, JobTextWritten}
-use Rattle.aioscan_cmd.specs.ListerState.{unskipped_job_parts, AllJobTextsWritten}
+use Rattle.lister.specs.ListerState.{unskipped_job_requests, JobTextWritten}
+use Rattle.lister.specs.ListerState.{unskipped_job_parts, AllJobTextsWritten}
 use Rattle.run_report.specs.declared.report.Outcome.{Outcome}
 use Rattle.run_report.specs.declared.report.Outcome.TheVariants.{Done}
-use Rattle.aioscan_cmd.proofs.JobSumsAdd.{grew_by, summed_append, summed_more, summed_none}
-use Rattle.aioscan_cmd.proofs.JobSumsAdd.{summed_same}
+use Rattle.lister.proofs.JobSumsAdd.{grew_by, summed_append, summed_more, summed_none}
+use Rattle.lister.proofs.JobSumsAdd.{summed_same}
 
 pub among_all : (jobs : List Job) (i n : ℕ) (d job : Job) → i < length jobs → job ≡ get_or jobs i d
     → n ≤ unread_job_count (job ∷ []) → n ≤ unread_job_count jobs

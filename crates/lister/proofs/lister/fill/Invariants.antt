@@ -1,8 +1,8 @@
 use Rattle.std.proofs.Common.{◌≡◌, ◌++◌, length, take, None}
 use Rattle.std.specs.List.{All}
 use Rattle.scan_jobs.specs.Jobs.{IsNewJob}
-use Rattle.aioscan_cmd.specs.ListerState.{unskipped_job_parts}
-use Rattle.aioscan_cmd.proofs.lister.fill.Given as goal
+use Rattle.lister.specs.ListerState.{unskipped_job_parts}
+use Rattle.lister.proofs.lister.fill.Given as goal
 
 abbrev pub invariant-loop-place : goal.invariant-loop-place
 invariant-loop-place g l = record {

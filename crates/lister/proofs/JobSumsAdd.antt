@@ -9,7 +9,7 @@ use Rattle.heap_scan.specs.declared.sums.PageSums.{PageSums}
 use Rattle.scan_settings.specs.ListOptions.{ListOptions}
 use Rattle.scan_jobs.specs.declared.job.Ending.{Ending as JobEnding}
 use Rattle.scan_jobs.specs.declared.job.Ending.TheVariants as ending
-use Rattle.aioscan_cmd.specs.ListerState.{outcome_of_ending}
+use Rattle.lister.specs.ListerState.{outcome_of_ending}
 use Rattle.run_report.specs.Output.{ListFormat, format_of_options}
 use Rattle.request_list.specs.RequestList.{Part, blocks_of_parts}
 use Rattle.run_report.specs.Sums.{saturated_count, saturated_sums, HasSums, IsSummedOutput}

@@ -15,7 +15,7 @@ use Rattle.request_list.specs.RequestList.{Request, Part}
 use Rattle.run_report.specs.Output.{IsOutput, WriteFaultsCounted, format_of_options}
 use Rattle.run_report.specs.ErrorLine.{ErrorStream, AppendsWarnings, error_stream}
 use Rattle.run_report.specs.Sums.{IsSummedOutput}
-use Rattle.aioscan_cmd.specs.declared.lister.Lister.{Lister}
+use Rattle.lister.specs.declared.lister.Lister.{Lister}
 use Rattle.run_report.specs.declared.report.Outcome.{Outcome}
 use Rattle.run_report.specs.declared.report.Outcome.TheVariants.{Done, Invalid, Unread}
 use Rattle.run_report.specs.declared.report.Outcome.TheVariants.{NoMemory, Missing}

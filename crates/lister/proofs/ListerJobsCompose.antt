@@ -10,20 +10,20 @@ use Rattle.scan_jobs.specs.BlockFilter.{BlockFilter}
 use Rattle.scan_jobs.specs.declared.job.Job.{Job}
 use Rattle.request_list.specs.RequestList.{Part}
 use Rattle.run_report.specs.Output.{WriteFaultsCounted, format_of_options}
-use Rattle.aioscan_cmd.specs.ListerState.{AllJobTextsWritten, ListerIsOver}
-use Rattle.aioscan_cmd.specs.ListerState.{unskipped_job_parts, unskipped_parts}
-use Rattle.aioscan_cmd.specs.ListerState.{CutsOffJobs, ListerListedParts, PreservesListing}
-use Rattle.aioscan_cmd.specs.ListerState.{lister_error_stream, lister_options, lister_filter}
-use Rattle.aioscan_cmd.specs.ListerLaws.{parts_before_rest, same_errors}
+use Rattle.lister.specs.ListerState.{AllJobTextsWritten, ListerIsOver}
+use Rattle.lister.specs.ListerState.{unskipped_job_parts, unskipped_parts}
+use Rattle.lister.specs.ListerState.{CutsOffJobs, ListerListedParts, PreservesListing}
+use Rattle.lister.specs.ListerState.{lister_error_stream, lister_options, lister_filter}
+use Rattle.lister.specs.ListerLaws.{parts_before_rest, same_errors}
 use Rattle.run_report.specs.ErrorLine.{ErrorStream, AppendsWarnings}
-use Rattle.aioscan_cmd.specs.declared.lister.Lister.{Lister}
+use Rattle.lister.specs.declared.lister.Lister.{Lister}
 use Rattle.run_report.specs.declared.report.Outcome.{Outcome}
 use Rattle.run_report.specs.declared.report.Outcome.TheVariants.{Done}
 use Rattle.heap_scan.specs.Sums.{no_sums}
 use Rattle.heap_scan.specs.declared.sums.PageSums.{PageSums}
 use Rattle.run_report.specs.Sums.{IsSummedOutput}
-use Rattle.aioscan_cmd.proofs.JobSumsAdd.{summed_append, summed_more, summed_none}
-use Rattle.aioscan_cmd.proofs.UnskippedBlocksAppend.{unskipped_after_cut}
+use Rattle.lister.proofs.JobSumsAdd.{summed_append, summed_more, summed_none}
+use Rattle.lister.proofs.UnskippedBlocksAppend.{unskipped_after_cut}
 use Rattle.run_report.proofs.OutputsAppend.{written_then}
 use Rattle.run_report.proofs.ErrorTextsAppend.{warns_also, warns_none, warns_then}
 

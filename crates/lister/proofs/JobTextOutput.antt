@@ -29,11 +29,11 @@ use Rattle.run_report.specs.Outcomes.{outcome_ending, is_refused, named_block, i
 use Rattle.run_report.specs.Output.{OutputGrew, IsOutput, WriteFaultsCounted, ListFormat}
 use Rattle.run_report.specs.Output.{format_of_options}
 use Rattle.run_report.specs.Outcomes.{unread_count}
-use Rattle.aioscan_cmd.specs.ListerState.{outcome_of_ending, JobTextWritten}
+use Rattle.lister.specs.ListerState.{outcome_of_ending, JobTextWritten}
 use Rattle.run_report.specs.declared.report.Outcome.{Outcome}
 use Rattle.run_report.specs.declared.report.Outcome.TheVariants.{CannotWrite, NoMemory}
 use Rattle.request_list.proofs.BlocksOfOneRelation.{AreOf}
-use Rattle.aioscan_cmd.proofs.UnskippedOfOneRelation.{job_entries_of_relation}
+use Rattle.lister.proofs.UnskippedOfOneRelation.{job_entries_of_relation}
 use Rattle.run_report.proofs.CutsInParts.{cut_alone}
 use Rattle.run_report.proofs.SinkTextsAppend.{SinkGrew-same, SinkGrewByPrefix-whole}
 use Rattle.run_report.proofs.OutputsAppend.{no_listing, no_warnings, with_blocks}

@@ -12,9 +12,9 @@ use Rattle.request_list.specs.RequestList.{Part}
 use Rattle.run_report.specs.Output.{WriteFaultsCounted, format_of_options}
 use Rattle.run_report.specs.ErrorLine.{ErrorStream, AppendsWarnings, error_stream}
 use Rattle.run_report.specs.Sums.{IsSummedOutput}
-use Rattle.aioscan_cmd.specs.ListerState.{CutsOffJobs, PreservesListing, lister_error_stream}
-use Rattle.aioscan_cmd.specs.ListerState.{unskipped_job_parts, unskipped_parts}
-use Rattle.aioscan_cmd.specs.declared.lister.Lister.{Lister}
+use Rattle.lister.specs.ListerState.{CutsOffJobs, PreservesListing, lister_error_stream}
+use Rattle.lister.specs.ListerState.{unskipped_job_parts, unskipped_parts}
+use Rattle.lister.specs.declared.lister.Lister.{Lister}
 use Rattle.run_report.specs.declared.report.Line.{Line}
 use Rattle.run_report.specs.declared.report.Outcome.{Outcome}
 use Rattle.run_report.specs.declared.report.Outcome.TheVariants.{Done}
