@@ -8,21 +8,21 @@ use Rattle.page_check.specs.Told.{Told}
 use Rattle.vis_map.specs.Bits.{Map}
 use Rattle.vis_map.specs.MapRequest.{unmarked_entries}
 use Rattle.vis_map.specs.declared.map.Skip.{Skip}
-use Rattle.scan_rounds.specs.Jobs.{answered_ending, unread_ending_count}
+use Rattle.scan_jobs.specs.Jobs.{answered_ending, unread_ending_count}
 use Rattle.scan_settings.specs.ListOptions.{ListOptions}
 use Rattle.scan_settings.specs.Settings.{page_rules}
 use Rattle.scan_rounds.specs.Rounds.{MapPagesConsumed}
-use Rattle.scan_rounds.specs.BlockFilter.{BlockFilter, unskipped_entries}
-use Rattle.scan_rounds.specs.ConsumedPages.{MapHasPages, PagesConsumed}
+use Rattle.scan_jobs.specs.BlockFilter.{BlockFilter, unskipped_entries}
+use Rattle.scan_jobs.specs.ConsumedPages.{MapHasPages, PagesConsumed}
 use Rattle.scan_rounds.proofs.ReadMaps.{map_taken}
 use Rattle.scan_rounds.specs.declared.backend.Backend.{Backend}
-use Rattle.scan_rounds.specs.declared.job.Ending.{Ending as JobEnding}
-use Rattle.scan_rounds.specs.declared.job.Ending.TheVariants as ending
+use Rattle.scan_jobs.specs.declared.job.Ending.{Ending as JobEnding}
+use Rattle.scan_jobs.specs.declared.job.Ending.TheVariants as ending
 use Rattle.command_line.specs.Command.{IsMapOf, MapOption, options_of_settings}
 use Rattle.request_list.specs.RemainingRequests.{AsksForMap, map_page_count, resolved_request_list}
 use Rattle.request_list.specs.RemainingRequests.{resolved_parts, resolved_request_parts}
 use Rattle.request_list.specs.RemainingRequests.{resolved_requests, resolved_settings}
-use Rattle.aioscan_cmd.specs.ListerState.{outcome_of_ending, unskipped_parts}
+use Rattle.lister.specs.ListerState.{outcome_of_ending, unskipped_parts}
 use Rattle.run_report.specs.Output.{IsOutput, command_format, format_of_options}
 use Rattle.request_list.specs.RequestList.{map_pages_known}
 use Rattle.request_list.specs.RequestList.{Part, Request, block_range, blocks_of_parts, with_map}
@@ -37,8 +37,8 @@ use Rattle.aioscan_cmd.proofs.MapPagesThenBlocks.{jobs_listed, format_with_map, 
 use Rattle.request_list.proofs.PartsOfRequests.{request_blocks}
 use Rattle.run_report.proofs.OutputsAppend.{lists_append, lists_more, lists_same}
 use Rattle.request_list.proofs.BlocksOfOneRelation.{AreOf}
-use Rattle.aioscan_cmd.proofs.UnskippedOfOneRelation.{unskipped_of_relation}
-use Rattle.aioscan_cmd.proofs.UnskippedBlocksAppend.{resolved_unskipped, unskipped_none}
+use Rattle.lister.proofs.UnskippedOfOneRelation.{unskipped_of_relation}
+use Rattle.lister.proofs.UnskippedBlocksAppend.{resolved_unskipped, unskipped_none}
 
 -- the words name a map
 pub asks_for_map : (a : ResolvedCommand) (found : Option MapOfWords) (option : MapOfWords)

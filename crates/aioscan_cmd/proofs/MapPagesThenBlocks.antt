@@ -17,14 +17,14 @@ use Rattle.heap_scan.specs.Sums.{sums_of}
 use Rattle.heap_tuple.specs.Listing.{text_with}
 use Rattle.vis_map.specs.Bits.{Map}
 use Rattle.vis_map.specs.MapRequest.{greatest_of, unmarked_entries, needed_pages}
-use Rattle.scan_rounds.specs.Jobs.{answered_ending}
+use Rattle.scan_jobs.specs.Jobs.{answered_ending}
 use Rattle.scan_settings.specs.ListOptions.{ListOptions}
-use Rattle.scan_rounds.specs.ConsumedPages.{MapHasPages, PagesConsumed}
-use Rattle.scan_rounds.specs.declared.job.Ending.{Ending as JobEnding}
-use Rattle.scan_rounds.proofs.Blocks.{answer_wider}
-use Rattle.scan_rounds.proofs.JobsListed.{none_warned}
+use Rattle.scan_jobs.specs.ConsumedPages.{MapHasPages, PagesConsumed}
+use Rattle.scan_jobs.specs.declared.job.Ending.{Ending as JobEnding}
+use Rattle.scan_rounds.proofs.WiderAnswers.{answer_wider}
+use Rattle.scan_jobs.proofs.JobsListed.{none_warned}
 use Rattle.command_line.specs.Command.{MapOption}
-use Rattle.aioscan_cmd.specs.ListerState.{outcome_of_ending, unskipped_parts}
+use Rattle.lister.specs.ListerState.{outcome_of_ending, unskipped_parts}
 use Rattle.run_report.specs.Output.{IsOutput, ListFormat, format_of_options}
 use Rattle.request_list.specs.RequestList.{map_pages_known}
 use Rattle.request_list.specs.RequestList.{Page, Part, Request, block_range, blocks_of_parts}
@@ -32,7 +32,7 @@ use Rattle.request_list.specs.RequestList.{without_map_pages, with_map_part}
 use Rattle.run_report.specs.declared.report.Outcome.{Outcome}
 use Rattle.run_report.proofs.CutsInParts.{cut_in_text, stopped_by}
 use Rattle.run_report.proofs.SinkTextsAppend.{SinkGrew-nothing, SinkGrew-same}
-use Rattle.aioscan_cmd.proofs.JobTextOutput.{text_listed}
+use Rattle.lister.proofs.JobTextOutput.{text_listed}
 use Rattle.request_list.proofs.BlocksOfOneRelation.{AreOf, map_listing, other_listing, pages_are_of}
 use Rattle.request_list.proofs.BlocksOfOneRelation.{range_of, some_pages_of}
 

@@ -16,7 +16,7 @@ use Rattle.scan_settings.specs.declared.settings.ScanSettings.{ScanSettings}
 use Rattle.command_line.specs.Command.{Command, command_relations}
 use Rattle.request_list.specs.RemainingRequests.{resolved_request_list, resolved_request_parts}
 use Rattle.aio_disk.specs.declared.disk.Disk.{Ghosts as DiskGhosts}
-use Rattle.scan_rounds.proofs.Sums.{sum-none}
+use Rattle.scan_jobs.proofs.Sums.{sum-none}
 use Rattle.aioscan_cmd.specs.Disks.{IsUnreadDisk}
 use Rattle.run_report.specs.Lengths.{HasAllLengths}
 use Rattle.run_report.specs.Outcomes.{is_refused}

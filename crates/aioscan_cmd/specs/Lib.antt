@@ -1,3 +1,1 @@
-pub mod ListerState
-pub mod ListerLaws
 pub mod Disks

@@ -11,10 +11,10 @@ ghost use Rattle.run_report.specs.Output.{IsOutput, WriteFaultsCounted, command_
 ghost use Rattle.run_report.specs.Sums.{HasSums};
 
 use crate::list_jobs::list_jobs;
-use crate::lister::outcome_of;
 use crate::{Line, Outcome};
 use aio_disk::{Disk, Sink};
 use heap_scan::PageSums;
+use lister::outcome_of;
 use page_check::World;
 use request_list::ResolvedCommand;
 use run_report::write_warnings;

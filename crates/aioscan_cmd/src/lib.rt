@@ -15,7 +15,6 @@ mod disks;
 mod generated_scan;
 mod lengths;
 mod list_jobs;
-mod lister;
 pub mod program;
 mod run;
 mod scan;

@@ -2,31 +2,24 @@
 ghost use Rattle.std.specs.Prelude.{◌≡◌, ◌<◌, ◌≤◌, ◌+◌, ◌^◌, ℕ, length};
 ghost use Rattle.scan_rounds.specs.Rounds.{results_taken_count};
 ghost use Rattle.scan_rounds.specs.Scans.{IsScan, IsSameScan, scan_options};
-ghost use Rattle.scan_rounds.specs.BlockFilter.{filter_of_skipping, unskipped_entries};
+ghost use Rattle.scan_jobs.specs.BlockFilter.{filter_of_skipping, unskipped_entries};
 ghost use Rattle.command_line.specs.Command.{options_of_settings};
 ghost use Rattle.request_list.specs.RemainingRequests.{IsResolved, resolved_parts};
 ghost use Rattle.request_list.specs.RemainingRequests.{resolved_requests, resolved_settings};
 ghost use Rattle.run_report.specs.ErrorLine.{AppendsWarnings, error_stream};
-ghost use Rattle.aioscan_cmd.specs.ListerState.{unskipped_parts};
+ghost use Rattle.lister.specs.ListerState.{unskipped_parts};
 ghost use Rattle.run_report.specs.Output.{IsOutput, WriteFaultsCounted, format_of_options};
 ghost use Rattle.run_report.specs.Sums.{HasSums};
 
-use crate::lister::Lister;
 use crate::{Line, Outcome};
 use aio_disk::{Disk, Sink};
 use heap_scan::PageSums;
+use lister::Lister;
 use page_check::World;
 use request_list::{Cutter, ResolvedCommand};
-use scan_rounds::{MapFilter, Scan};
+use scan_rounds::{MapFilter, Scan, end_borrow};
 use std::sync::Wait;
 use std::thread::Threads;
-
-// Ends the borrow of a sink.
-fn end_borrow<O: Sink>(out: &mut O)
-    ensures { out.new ≡ out.old }
-{
-    let _ = out;
-}
 
 /// Lists what the FILE words ask for by jobs, without what the map leaves out.
 pub(crate) fn list_jobs<

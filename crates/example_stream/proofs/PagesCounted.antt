@@ -9,7 +9,7 @@ use Rattle.page_check.specs.declared.rules.PageRules.{PageRules}
 use Rattle.page_check.specs.SynchronousAnswer.{Entry, Ending, Given, reading_of}
 use Rattle.page_check.specs.IsAnswer.{IsNext, Next, Page, Stop}
 use Rattle.page_check.proofs.AnswersInOrder.{answered_none, answered_next}
-use Rattle.read_stream.specs.StreamAnswers.{pages_given}
+use Rattle.stream_answer.specs.StreamAnswers.{pages_given}
 use Rattle.read_stream.proofs.UnreadCauses.{next_wider}
 use Rattle.example_stream.specs.Items.{ItemsCounted, answer_items}
 

@@ -6,7 +6,7 @@ use Rattle.page_check.specs.LinePointers.{line_pointer_count}
 use Rattle.page_check.specs.declared.rules.PageRules.{PageRules}
 use Rattle.page_check.specs.SynchronousAnswer.{Entry, Given, Ending, reading_of}
 use Rattle.page_check.specs.IsAnswer.{IsAnswer, Next, Page, Stop}
-use Rattle.read_stream.specs.StreamAnswers.{stream_entries}
+use Rattle.stream_answer.specs.StreamAnswers.{stream_entries}
 use Rattle.read_stream.specs.StreamViews.{StreamView}
 
 -- how many the page has, where the answer gives one

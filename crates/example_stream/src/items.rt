@@ -6,7 +6,7 @@ ghost use Rattle.aio_handle.specs.EndStates.{HasNoOwnerTokens};
 ghost use Rattle.aio_handle.specs.FreeHandles.{IsRoom};
 ghost use Rattle.block_source.specs.BlocksLeft.{consecutive_blocks};
 ghost use Rattle.read_stream.specs.Desks.{IsFreeDesk, desk_settings};
-ghost use Rattle.read_stream.specs.StreamAnswers.{stream_entries, synchronous_answer};
+ghost use Rattle.stream_answer.specs.StreamAnswers.{stream_entries, synchronous_answer};
 ghost use Rattle.read_stream.specs.StreamState.{IsOpenFor, stream_view};
 ghost use Rattle.read_stream.specs.StreamViews.{IsSameStream};
 ghost use Rattle.example_stream.specs.Items.{ItemsCounted, StreamCounted, answer_items};
@@ -17,7 +17,7 @@ use block_source::Range;
 use buf_pool::Pool;
 use method_sync::SyncMethod;
 use page_check::{World, count};
-use read_stream::{Desk, Next, ReadStream};
+use read_stream::{Desk, Next, ReadStream, end_borrow};
 use std::sync::Wait;
 
 // How many line pointers the page has, where the answer gives one.
@@ -95,11 +95,4 @@ pub fn count_items<W: World, E: Execute<ReadIo, W>, R: Wait>(
     let (_, desk) = stream.close(rt, table, actor, &mut SyncMethod, runner);
     end_borrow(desk);
     counted
-}
-
-// Ends a borrow. It does nothing: what was lent is as the borrower left it.
-fn end_borrow<X>(loan: &mut X)
-    ensures { loan.new ≡ loan.old }
-{
-    let _ = loan;
 }

@@ -1,5 +1,5 @@
 -- What the inside of a stream answers, as its callers see it.
-use Rattle.std.proofs.Common.{◌≡◌, ◌<◌, ℕ, List, [], true, Bool, ap, append-nil, arith, length}
+use Rattle.std.proofs.Common.{◌≡◌, ◌<◌, ℕ, List, [], true, ap, append-nil, arith, length}
 use Rattle.std.proofs.Common.{refl, subst, sym}
 use Rattle.std.proofs.lemmas.List.{length-map}
 use Rattle.std.specs.Prelude.{Option, IfSome, slice_get}
@@ -17,11 +17,12 @@ use Rattle.read_stream.specs.declared.stream.ReadStream.{ReadStream}
 use Rattle.read_stream.specs.declared.queue.QueuedBlock.{QueuedBlock}
 use Rattle.read_stream.specs.declared.reads.EndedRead.{EndedRead}
 use Rattle.read_stream.specs.AtHand.{answer_with, ending_at_hand}
-use Rattle.read_stream.specs.StreamAnswers.{IfZeroed, MayBeUnread, stream_entries, stream_entry}
+use Rattle.stream_answer.specs.StreamAnswers.{IfZeroed, stream_entries, stream_entry}
+use Rattle.read_stream.specs.FailedReads.{MayBeUnread}
 use Rattle.read_stream.specs.StreamState.{IsOpen, answer_at_hand, entries_at_open, stream_view}
 use Rattle.read_stream.specs.StreamViews.{StreamView, IsActorAsLeft}
 use Rattle.read_stream.specs.StreamViews.{IsSameStream, IsStreamAnswer, stream_after}
-use Rattle.read_stream.proofs.AnswerPages.{next_valid, page_within}
+use Rattle.stream_answer.proofs.AnswerPages.{next_valid, page_within}
 
 -- an actor is as it was just left
 pub as_left : (left now : ActorView) → left ≡ now → IsActorAsLeft left now

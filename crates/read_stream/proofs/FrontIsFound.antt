@@ -17,7 +17,6 @@ use Rattle.read_stream.specs.AtHand.{IsNextOfOldest}
 use Rattle.read_stream.specs.StreamIos.{left_run, ios_started}
 use Rattle.read_stream.specs.StreamState.{IsBetweenCalls, IsReadInFront, IsRunning, Underway}
 use Rattle.read_stream.specs.Changes.{with_at_hand}
-use Rattle.read_stream.specs.StreamState.{returned_count}
 use Rattle.read_stream.proofs.FrontOfQueue.{front_is_next}
 use Rattle.read_stream.proofs.OldestRead.{few_started, oldest_is_first}
 use Rattle.read_stream.proofs.StopIsNextAnswer.{end_answered, stop_answered}

@@ -17,7 +17,8 @@ use Rattle.read_stream.specs.declared.parts.Part.TheVariants as part
 use Rattle.read_stream.specs.declared.queue.QueuedBlock.{QueuedBlock}
 use Rattle.read_stream.specs.declared.reads.EndedRead.{EndedRead}
 use Rattle.read_stream.specs.declared.stream.ReadStream.{ReadStream}
-use Rattle.read_stream.specs.StreamAnswers.{stream_entry, page_answer, pages_given, MayBeUnread}
+use Rattle.stream_answer.specs.StreamAnswers.{stream_entry, page_answer, pages_given}
+use Rattle.read_stream.specs.FailedReads.{MayBeUnread}
 use Rattle.read_stream.specs.StreamViews.{answered_stop}
 use Rattle.read_stream.specs.QueuedBlocks.{HasInFront, source_item}
 use Rattle.read_stream.specs.AtHand.{HasAnswer, IsNextOfOldest, IsRightAtHand, answer_with}

@@ -14,7 +14,8 @@ use Rattle.read_stream.specs.declared.at_hand.AtHand.{AtHand}
 use Rattle.read_stream.specs.declared.reads.Reads.{Reads}
 use Rattle.read_stream.specs.declared.scope.Scope.{Scope}
 use Rattle.read_stream.specs.declared.stream.ReadStream.{ReadStream}
-use Rattle.read_stream.specs.StreamAnswers.{stream_entries, pages_given, MayBeUnread}
+use Rattle.stream_answer.specs.StreamAnswers.{stream_entries, pages_given}
+use Rattle.read_stream.specs.FailedReads.{MayBeUnread}
 use Rattle.read_stream.specs.StreamViews.{answered_stop, stream_after, IsActorAsLeft}
 use Rattle.read_stream.specs.StreamIos.{Issued}
 use Rattle.read_stream.specs.ActorProgress.{ActorAdvanced}

@@ -25,7 +25,6 @@ pub mod UnderwayLaws
 pub mod PartIsNextAnswer
 pub mod UnreadCauses
 pub mod LaterActorKeepsAnswer
-pub mod AnswerPages
 pub mod CallersView
 pub mod StopIsNextAnswer
 pub mod GivenPageIsNextAnswer

@@ -1,7 +1,6 @@
 -- A stream that was just opened.
 use Rattle.std.proofs.Common.{◌≡◌, ℕ, ◌^◌, ◌<◌, ◌≤◌, List, [], length, refl, sym, ap}
 use Rattle.std.proofs.Common.{arith, append-nil, inl}
-use Rattle.std.specs.Prelude.{Option, Some, None, IfSome}
 use Rattle.page_check.specs.SynchronousAnswer.{Reading, Known as KnownReader, Unknown, IfKnown}
 use Rattle.page_check.specs.declared.world.World.{Ghosts as WorldGhosts}
 use Rattle.page_check.specs.SynchronousAnswer.{Reader}

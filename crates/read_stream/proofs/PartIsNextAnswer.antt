@@ -19,8 +19,9 @@ use Rattle.read_stream.specs.declared.parts.Part.TheVariants as part
 use Rattle.read_stream.specs.declared.parts.Stop.{Stop}
 use Rattle.read_stream.specs.declared.parts.Stop.TheVariants as stop
 use Rattle.read_stream.specs.declared.scope.Scope.{Scope}
-use Rattle.read_stream.specs.StreamAnswers.{stream_entry, stream_entries}
-use Rattle.read_stream.specs.StreamAnswers.{page_answer, IsFailedRead, MayBeUnread}
+use Rattle.stream_answer.specs.StreamAnswers.{stream_entry, stream_entries}
+use Rattle.stream_answer.specs.StreamAnswers.{page_answer}
+use Rattle.read_stream.specs.FailedReads.{IsFailedRead, MayBeUnread}
 use Rattle.read_stream.specs.StreamIos.{IsTakenIn, known_at_open}
 use Rattle.read_stream.specs.AtHand.{stop_ending}
 use Rattle.read_stream.specs.Parts.{CoversBlock, IsValidPart}

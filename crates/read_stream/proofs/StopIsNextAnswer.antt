@@ -13,7 +13,8 @@ use Rattle.read_stream.specs.declared.parts.Part.TheVariants as part
 use Rattle.read_stream.specs.declared.parts.Stop.{Stop}
 use Rattle.read_stream.specs.declared.queue.QueuedBlock.{QueuedBlock}
 use Rattle.read_stream.specs.declared.stream.ReadStream.{ReadStream}
-use Rattle.read_stream.specs.StreamAnswers.{stream_entry, MayBeUnread}
+use Rattle.stream_answer.specs.StreamAnswers.{stream_entry}
+use Rattle.read_stream.specs.FailedReads.{MayBeUnread}
 use Rattle.read_stream.specs.StreamIos.{IsTakenIn}
 use Rattle.read_stream.specs.QueuedBlocks.{HasInFront, source_item}
 use Rattle.read_stream.specs.AtHand.{IsNextOfOldest, stop_ending}

@@ -4,7 +4,7 @@ use Rattle.std.proofs.lemmas.List.Sums.{sum_by-append}
 use Rattle.std.specs.Prelude.{Option}
 use Rattle.page_check.specs.SynchronousAnswer.{Reading}
 use Rattle.page_check.specs.Told.{Told}
-use Rattle.page_check.specs.SynchronousAnswer.{Entry, Reader, Ending, End, Invalid, PastEnd, Unread}
+use Rattle.page_check.specs.SynchronousAnswer.{Entry, Ending, End, Invalid, PastEnd, Unread}
 use Rattle.page_check.specs.IsAnswer.{IsEnding, IsNext, Next, Page, Stop}
 use Rattle.aio_word.specs.declared.Class.TheVariants.{Failed}
 use Rattle.aio_word.specs.declared.Kind.TheVariants as kind
@@ -17,7 +17,7 @@ use Rattle.aio_word.specs.Tokens.{failed_result_count, is_failed_result}
 use Rattle.aio_word.proofs.ReplacedElement.{sum-in}
 use Rattle.aio_handle.specs.ContractViews.{ActorView}
 use Rattle.aio_callback.specs.ReadIoView.{ReadIoView}
-use Rattle.read_stream.specs.StreamAnswers.{IsFailedRead, MayBeUnread}
+use Rattle.read_stream.specs.FailedReads.{IsFailedRead, MayBeUnread}
 use Rattle.read_stream.specs.StreamViews.{StreamView, HasNoFailedRead, IsStreamAnswer}
 use Rattle.read_stream.specs.StreamViews.{IsSynchronousAnswer}
 use Rattle.read_stream.specs.ActorProgress.{ActorAdvanced}

@@ -18,7 +18,7 @@ use Rattle.read_stream.specs.declared.reads.EndedRead.{EndedRead}
 use Rattle.read_stream.specs.Parts.{CoversBlock, IsValidPart}
 use Rattle.read_stream.specs.QueuedBlocks.{HasInFront}
 use Rattle.read_stream.specs.StreamIos.{left_run}
-use Rattle.read_stream.specs.StreamAnswers.{page_answer}
+use Rattle.stream_answer.specs.StreamAnswers.{page_answer}
 
 abbrev pub stop_ending : Stop → ℕ → Ending
 stop_ending stop.Invalid block = Invalid block

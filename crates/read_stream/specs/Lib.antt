@@ -1,7 +1,7 @@
 pub mod ActorProgress
 pub mod IoContexts
 pub mod StreamIos
-pub mod StreamAnswers
+pub mod FailedReads
 pub mod Parts
 pub mod Desks
 pub mod QueuedBlocks

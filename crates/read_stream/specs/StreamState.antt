@@ -18,7 +18,8 @@ use Rattle.read_stream.specs.declared.queue.QueuedBlock.{QueuedBlock}
 use Rattle.read_stream.specs.declared.reads.Reads.{Reads}
 use Rattle.read_stream.specs.declared.scope.Scope.{Scope}
 use Rattle.read_stream.specs.declared.stream.ReadStream.{ReadStream}
-use Rattle.read_stream.specs.StreamAnswers.{stream_entries, MayBeUnread}
+use Rattle.stream_answer.specs.StreamAnswers.{stream_entries}
+use Rattle.read_stream.specs.FailedReads.{MayBeUnread}
 use Rattle.read_stream.specs.StreamViews.{StreamView, IsActorAsLeft, stream_after}
 use Rattle.read_stream.specs.StreamIos.{Issued, ReadsForRuns, HasEndedRead, record_count}
 use Rattle.read_stream.specs.StreamIos.{ios_started}

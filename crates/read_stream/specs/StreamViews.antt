@@ -11,9 +11,10 @@ use Rattle.aio_handle.specs.declared.execute.Execute.{Ghosts as ExecuteGhosts}
 use Rattle.aio_batch.specs.declared.method.Method.{Ghosts as MethodGhosts}
 use Rattle.aio_callback.specs.ReadIoView.{ReadIoView}
 use Rattle.read_stream.specs.declared.desk.Settings.{Settings}
-use Rattle.read_stream.specs.declared.answer.Next.{Next}
-use Rattle.read_stream.specs.StreamAnswers.{stream_entries, synchronous_answer, pages_given}
-use Rattle.read_stream.specs.StreamAnswers.{IfZeroed, MayBeUnread}
+use Rattle.stream_answer.specs.declared.answer.Next.{Next}
+use Rattle.stream_answer.specs.StreamAnswers.{stream_entries, synchronous_answer, pages_given}
+use Rattle.stream_answer.specs.StreamAnswers.{IfZeroed}
+use Rattle.read_stream.specs.FailedReads.{MayBeUnread}
 use Rattle.read_stream.specs.ActorProgress.{ActorAdvanced}
 
 -- a stream, between two calls

@@ -20,13 +20,13 @@
 
 mod acquiring;
 mod advance;
-mod answer;
 mod at_hand;
 mod blocks;
 mod desk;
 mod front;
 mod io_context;
 mod issuing;
+mod loan;
 mod look_ahead;
 mod parts;
 mod queue;
@@ -36,6 +36,7 @@ mod scope;
 mod stream;
 mod taking_in;
 
-pub use answer::Next;
 pub use desk::{Desk, Settings};
+pub use loan::end_borrow;
 pub use stream::ReadStream;
+pub use stream_answer::Next;

@@ -7,7 +7,7 @@ ghost use Rattle.aio_word.specs.Events.{lives_ended};
 ghost use Rattle.aio_handle.specs.EndStates.{HasNoOwnerTokens};
 ghost use Rattle.aio_handle.specs.FreeHandles.{IsRoom};
 ghost use Rattle.aio_handle.specs.ContractViews.{ActorView, IsActorOf};
-ghost use Rattle.read_stream.specs.StreamAnswers.{synchronous_answer, IfZeroed};
+ghost use Rattle.stream_answer.specs.StreamAnswers.{synchronous_answer, IfZeroed};
 ghost use Rattle.read_stream.specs.StreamViews.{answer_of, new_stream, IsStreamAnswer};
 ghost use Rattle.read_stream.specs.StreamViews.{HasNoFailedRead, IsSynchronousAnswer, CallAdvanced};
 ghost use Rattle.read_stream.specs.Desks.{IsFreeDesk, desk_settings};
@@ -15,7 +15,6 @@ ghost use Rattle.read_stream.specs.StreamState.{IsOpen, IsOpenFor, StreamAnswere
 ghost use Rattle.read_stream.specs.StreamState.{stream_view};
 ghost use Rattle.read_stream.specs.ActorProgress.{local_mark_count};
 
-use crate::answer::Next;
 use crate::at_hand::AtHand;
 use crate::desk::Desk;
 use crate::io_context::IoContext;
@@ -30,6 +29,7 @@ use page_check::World;
 use page_check::laws::a_page_has_8192_bytes;
 use std::snapshot::Snapshot;
 use std::sync::Wait;
+use stream_answer::Next;
 
 /// A stream of the pages of one relation, in the order of a source. It must be spent by `close`.
 /// Contracts speak of what it reads, how far it has come, and its actor (`stream_view`).

@@ -14,14 +14,14 @@ use Rattle.handoff.specs.HandoffViews.{HandoffView, ClientView, IsClientOf}
 use Rattle.method_worker.specs.QueueViews.{QueueView}
 use Rattle.read_stream.specs.ActorProgress.{local_mark_count}
 use Rattle.aio_disk.specs.declared.disk.Disk.{Ghosts as DiskGhosts}
-use Rattle.scan_rounds.specs.BlockFilter.{BlockFilter}
+use Rattle.scan_jobs.specs.BlockFilter.{BlockFilter}
 use Rattle.scan_rounds.specs.DiskActors.{ActorHasRoom, DiskActorAdvanced, IsBackend}
 use Rattle.scan_rounds.specs.DiskActors.{backend_options}
 use Rattle.scan_rounds.specs.Exchanges.{AreClientsOf, ClientsHold, MayExchange}
 use Rattle.scan_rounds.specs.Exchanges.{ShareHasRoom, ShareStandsIn, SharesAdvanced, SourceLed}
 use Rattle.scan_rounds.specs.Exchanges.{failed_results_of_share, jobs_of_shares}
 use Rattle.scan_rounds.specs.Exchanges.{results_of_share}
-use Rattle.scan_rounds.specs.Jobs.{IsNewJob, count_unskipped}
+use Rattle.scan_jobs.specs.Jobs.{IsNewJob, count_unskipped}
 use Rattle.scan_settings.specs.ListOptions.{ListOptions}
 use Rattle.scan_rounds.specs.Progress.{IsClosedByFirst}
 use Rattle.scan_rounds.specs.Rounds.{AllBackendsHaveRoom, AllHaveOptions, backend_disk_actor}
@@ -33,17 +33,17 @@ use Rattle.scan_rounds.specs.declared.backend.Backend.{Backend}
 use Rattle.scan_rounds.specs.declared.disk_actor.DiskActor.{DiskActor}
 use Rattle.scan_rounds.specs.declared.exchange.Phase.TheVariants as phase
 use Rattle.scan_rounds.specs.declared.exchange.RunProgress.{RunProgress}
-use Rattle.scan_rounds.specs.declared.job.Job.{Job}
-use Rattle.scan_rounds.specs.declared.job_source.JobSource.{Ghosts as JobSourceGhosts}
+use Rattle.scan_jobs.specs.declared.job.Job.{Job}
+use Rattle.scan_jobs.specs.declared.job_source.JobSource.{Ghosts as JobSourceGhosts}
 use Rattle.scan_rounds.specs.declared.share.RunTerms.{RunTerms}
 use Rattle.scan_rounds.specs.declared.share.Share.{Share}
 use Rattle.scan_rounds.specs.declared.shared.SharedState.{SharedState}
 use Rattle.scan_rounds.proofs.ActorsAdvance.{goes_then, stays_put}
-use Rattle.scan_rounds.proofs.CountRaised.{raised_none, raised_twice}
+use Rattle.scan_rounds.proofs.totals.CountRaised.{raised_none, raised_twice}
 use Rattle.scan_rounds.proofs.LeastRoom.{fewer}
 use Rattle.scan_rounds.proofs.ListPairs.{zip-itself, zip-length, zip-map, zip-then}
 use Rattle.scan_rounds.proofs.QueueClosed.{all_as, many_as, sum_as}
-use Rattle.scan_rounds.proofs.Sums.{sum-mapped}
+use Rattle.scan_jobs.proofs.Sums.{sum-mapped}
 
 all_mapped : {X Y : Type 0} (P : Y → Type 0) (f : X → Y) (xs : List X) → All P (map f xs)
     → All (λ x. P (f x)) xs

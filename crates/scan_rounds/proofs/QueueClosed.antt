@@ -9,18 +9,18 @@ use Rattle.page_check.specs.declared.world.World.{Ghosts as WorldGhosts}
 use Rattle.page_check.specs.Told.{Told}
 use Rattle.aio_handle.specs.ContractViews.{TableView}
 use Rattle.method_worker.specs.QueueViews.{QueueView, IsSeatOf}
-use Rattle.read_stream.specs.StreamAnswers.{MayBeUnread}
+use Rattle.read_stream.specs.FailedReads.{MayBeUnread}
 use Rattle.aio_disk.specs.declared.disk.Disk.{Ghosts as DiskGhosts}
-use Rattle.scan_rounds.specs.BlockFilter.{BlockFilter}
+use Rattle.scan_jobs.specs.BlockFilter.{BlockFilter}
 use Rattle.scan_rounds.specs.DiskActors.{ActorHasRoom, IsBackend, backend_options}
-use Rattle.scan_rounds.specs.Jobs.{JobIsListed}
+use Rattle.scan_jobs.specs.Jobs.{JobIsListed}
 use Rattle.scan_settings.specs.ListOptions.{ListOptions, list_options}
 use Rattle.scan_rounds.specs.Rounds.{AllHaveOptions, AllJobsListed, IsLeastRoom, backend_disk_actor}
 use Rattle.read_stream.specs.declared.desk.Desk.{Desk}
 use Rattle.scan_rounds.specs.declared.backend.Backend.{Backend}
 use Rattle.scan_rounds.specs.declared.disk_actor.DiskActor.{DiskActor}
-use Rattle.scan_rounds.specs.declared.job.Job.{Job}
-use Rattle.scan_rounds.proofs.Sums.{sum-mapped}
+use Rattle.scan_jobs.specs.declared.job.Job.{Job}
+use Rattle.scan_jobs.proofs.Sums.{sum-mapped}
 
 -- backends with the same actors and disks
 module _ {W D : Type 0} where

@@ -1,46 +1,17 @@
--- What a map has of the pages that it has taken, and what is known of one that a scan has read.
-use Rattle.std.proofs.Common.{◌≡◌, ℕ, false, List, [], ◌∷◌, ◌++◌, sym, ap, ◌∙◌, append-nil, ◌≤◌}
-use Rattle.std.proofs.Common.{length, arith, subst}
-use Rattle.std.proofs.lemmas.List.{map-append}
-use Rattle.heap_scan.specs.Warnings.{warning_for, warnings_of}
-use Rattle.heap_scan.proofs.Jobs.{warnings-append}
-use Rattle.vis_map.specs.Bits.{Map}
-use Rattle.scan_rounds.specs.ConsumedPages.{MapHasPages, PagesConsumed}
-use Rattle.scan_rounds.proofs.UnitEntries.{G}
-use Rattle.scan_rounds.proofs.OutputOfPages.{no_warnings, one_warning, unwarned}
+-- What is known of the pages of a map that a scan has read.
+use Rattle.std.proofs.Common.{◌≡◌, ℕ, List, [], ◌∷◌, ◌≤◌, length, arith, subst}
 use Rattle.std.specs.Prelude.{Option, ⊤}
 use Rattle.page_check.specs.Told.{Told}
 use Rattle.page_check.specs.SynchronousAnswer.{reading_of}
 use Rattle.heap_scan.specs.Job.{job_entries}
-use Rattle.scan_rounds.specs.Jobs.{answered_ending}
+use Rattle.vis_map.specs.Bits.{Map}
 use Rattle.scan_settings.specs.ListOptions.{ListOptions}
+use Rattle.scan_jobs.specs.ConsumedPages.{MapHasPages, PagesConsumed}
+use Rattle.scan_jobs.specs.Jobs.{answered_ending}
+use Rattle.scan_jobs.specs.declared.job.Ending.{Ending}
 use Rattle.scan_rounds.specs.Rounds.{MapPagesConsumed}
 use Rattle.scan_rounds.specs.declared.backend.Backend.{Backend}
-use Rattle.scan_rounds.specs.declared.job.Ending.{Ending}
-use Rattle.scan_rounds.proofs.Blocks.{answer_wider}
-
-pub no_pages : (m : Map) (warnings : List ℕ) → m.added ≡ [] → warnings ≡ []
-    → MapHasPages m warnings []
-no_pages m warnings none quiet = record { added = none; warnings_are = quiet ∙ sym no_warnings }
-
--- the next page and its warning, if it was zeroed, behind those before
-pub page_taken : (m n : Map) (warnings warnings' : List ℕ) (g : G)
-    → n.added ≡ m.added ++ g.page ∷ [] → warnings' ≡ warnings ++ warning_for g → (pages : List G)
-    → MapHasPages m warnings pages → MapHasPages n warnings' (pages ++ g ∷ [])
-page_taken m n warnings warnings' g added warned pages has = record {
-  added = added ∙ ap (λ (l : List (List ℕ)). l ++ g.page ∷ []) has.added
-      ∙ sym (map-append (λ (x : G). x.page) pages (g ∷ []));
-  warnings_are = warned
-      ∙ ap (λ (l : List ℕ). l ++ warning_for g) has.warnings_are
-      ∙ ap (λ (l : List ℕ). warnings_of pages ++ l) (one_warning g)
-      ∙ sym (warnings-append pages (g ∷ []));
-}
-
--- a page that was not zeroed has no warning
-pub none_warned : (warnings : List ℕ) (g : G) → g.zeroed ≡ false
-    → warnings ≡ warnings ++ warning_for g
-none_warned warnings g read =
-    sym (ap (λ (l : List ℕ). warnings ++ l) (unwarned g read) ∙ append-nil warnings)
+use Rattle.scan_rounds.proofs.WiderAnswers.{answer_wider}
 
 any_of : {X : Type 0} (xs : List X) → 1 ≤ length xs → X
 any_of [] some = absurd (omega arith)

@@ -11,25 +11,25 @@ use Rattle.aio_word.specs.Tokens.{failed_result_count}
 use Rattle.aio_handle.specs.ContractViews.{TableView}
 use Rattle.method_worker.specs.QueueViews.{QueueView}
 use Rattle.heap_scan.specs.Job.{job_entries}
-use Rattle.read_stream.specs.StreamAnswers.{MayBeUnread}
+use Rattle.read_stream.specs.FailedReads.{MayBeUnread}
 use Rattle.read_stream.specs.ActorProgress.{local_mark_count}
 use Rattle.vis_map.specs.Bits.{Map}
 use Rattle.aio_disk.specs.declared.disk.Disk.{Ghosts as DiskGhosts}
 use Rattle.scan_rounds.specs.DiskActors.{BackendAdvanced, BackendReadMap, IsBackend, IsWorker}
-use Rattle.scan_rounds.specs.DiskActors.{entries_of_blocks, map_blocks}
-use Rattle.scan_rounds.specs.Jobs.{is_unread, answered_ending, unread_ending_count}
+use Rattle.scan_jobs.specs.StreamBlocks.{entries_of_blocks, map_blocks}
+use Rattle.scan_jobs.specs.Jobs.{is_unread, answered_ending, unread_ending_count}
 use Rattle.scan_settings.specs.ListOptions.{ListOptions}
 use Rattle.scan_rounds.specs.Rounds.{AllHaveOptions, AllWorkersServed, FirstBackendReadMap}
 use Rattle.scan_rounds.specs.Rounds.{MapPagesConsumed, failed_results_taken, results_taken_count}
-use Rattle.scan_rounds.specs.ConsumedPages.{MapHasPages, PagesConsumed}
-use Rattle.scan_rounds.specs.declared.job.Ending.{Ending}
+use Rattle.scan_jobs.specs.ConsumedPages.{MapHasPages, PagesConsumed}
+use Rattle.scan_jobs.specs.declared.job.Ending.{Ending}
 use Rattle.scan_rounds.specs.declared.backend.Backend.{Backend}
 use Rattle.scan_rounds.specs.declared.worker.Worker.{Worker}
 use Rattle.scan_rounds.proofs.ActorsAdvance.{backend_stays, stays_put}
 use Rattle.scan_rounds.proofs.ListPairs.{zip-itself}
-use Rattle.scan_rounds.proofs.UnskippedCount.{few_in_range}
+use Rattle.scan_jobs.proofs.UnskippedCount.{few_in_range}
 use Rattle.read_stream.proofs.UnreadCauses.{results_more}
-use Rattle.scan_rounds.proofs.UnreadLeavesResult.{unread_after}
+use Rattle.scan_rounds.proofs.actor_jobs.UnreadLeavesResult.{unread_after}
 
 -- workers that did nothing
 pub workers_stay : {W D : Type 0} (m : DiskGhosts D) (world : WorldGhosts W)

@@ -5,7 +5,7 @@ use Rattle.page_check.specs.declared.world.World.{Ghosts as WorldGhosts}
 use Rattle.aio_handle.specs.ContractViews.{TableView}
 use Rattle.method_worker.specs.QueueViews.{QueueView}
 use Rattle.aio_disk.specs.declared.disk.Disk.{Ghosts as DiskGhosts}
-use Rattle.scan_rounds.specs.BlockFilter.{BlockFilter}
+use Rattle.scan_jobs.specs.BlockFilter.{BlockFilter}
 use Rattle.scan_rounds.specs.Calls.{ScanMayRunSource, ScanRanSource}
 use Rattle.scan_settings.specs.ListOptions.{ListOptions}
 use Rattle.scan_rounds.specs.Progress.{BackendsAreReady}
@@ -14,10 +14,10 @@ use Rattle.scan_rounds.specs.Rounds.{IsLeastRoom, results_taken_count}
 use Rattle.scan_rounds.specs.RunLeads.{BackendsMayRun, BackendsRan}
 use Rattle.scan_rounds.specs.Scans.{IsOpenedAgain, scan_options}
 use Rattle.scan_rounds.specs.declared.backend.Backend.{Backend}
-use Rattle.scan_rounds.specs.declared.job_source.JobSource.{Ghosts as JobSourceGhosts}
+use Rattle.scan_jobs.specs.declared.job_source.JobSource.{Ghosts as JobSourceGhosts}
 use Rattle.scan_rounds.specs.declared.scan.Scan.{Scan}
 use Rattle.scan_rounds.specs.declared.worker.Worker.{Worker}
-use Rattle.scan_rounds.proofs.CountRaised.{raised_within}
+use Rattle.scan_rounds.proofs.totals.CountRaised.{raised_within}
 use Rattle.scan_rounds.proofs.LeastRoom.{fewer}
 use Rattle.scan_rounds.proofs.ScanAfterRounds.{scan_again, waiting_in}
 

@@ -5,14 +5,14 @@ use Rattle.page_check.specs.declared.world.World.{Ghosts as WorldGhosts}
 use Rattle.aio_disk.specs.Counts.{count_plus}
 use Rattle.vis_map.specs.Bits.{Map}
 use Rattle.aio_disk.specs.declared.disk.Disk.{Ghosts as DiskGhosts}
-use Rattle.scan_rounds.specs.BlockFilter.{BlockFilter}
-use Rattle.scan_rounds.specs.Jobs.{IsNewJob, count_unskipped, unread_job_count, unread_ending_count}
+use Rattle.scan_jobs.specs.BlockFilter.{BlockFilter}
+use Rattle.scan_jobs.specs.Jobs.{IsNewJob, count_unskipped, unread_job_count, unread_ending_count}
 use Rattle.scan_rounds.specs.Progress.{IsClosedByFirst}
 use Rattle.scan_rounds.specs.Rounds.{AllJobsListed, MapPagesConsumed, results_taken_count}
 use Rattle.scan_rounds.specs.Scans.{IsOpenedAgain, IsSameScan, IsScan, scan_options}
-use Rattle.scan_rounds.specs.declared.job.Ending.{Ending}
-use Rattle.scan_rounds.specs.declared.job.Job.{Job}
-use Rattle.scan_rounds.specs.declared.job_source.JobSource.{Ghosts as JobSourceGhosts}
+use Rattle.scan_jobs.specs.declared.job.Ending.{Ending}
+use Rattle.scan_jobs.specs.declared.job.Job.{Job}
+use Rattle.scan_jobs.specs.declared.job_source.JobSource.{Ghosts as JobSourceGhosts}
 use Rattle.scan_rounds.specs.declared.scan.Scan.{Scan}
 
 module _ {W D : Type 0} (m : DiskGhosts D) (world : WorldGhosts W) where

@@ -11,7 +11,7 @@ use Rattle.aio_handle.specs.EndStates.{HasNoOwnerTokens}
 use Rattle.aio_handle.specs.Execution.{CountersFollowMarks}
 use Rattle.aio_handle.specs.FreeHandles.{IsRoom}
 use Rattle.aio_handle.specs.ContractViews.{TableView, ActorView, IsActorOf, IsSameActor}
-use Rattle.read_stream.specs.StreamAnswers.{MayBeUnread}
+use Rattle.read_stream.specs.FailedReads.{MayBeUnread}
 use Rattle.read_stream.specs.Desks.{IsFreeDesk}
 use Rattle.read_stream.specs.ActorProgress.{local_mark_count}
 use Rattle.read_stream.specs.declared.desk.Desk.{Desk}
@@ -19,39 +19,21 @@ use Rattle.method_worker.specs.QueueViews.{QueueView, IsSeatOf}
 use Rattle.vis_map.specs.Bits.{Map}
 use Rattle.aio_disk.specs.declared.disk.Disk.{Ghosts as DiskGhosts}
 use Rattle.scan_settings.specs.ListOptions.{ListOptions, list_options}
-use Rattle.scan_rounds.specs.Jobs.{IsNewJob, JobIsListed, answered_ending, AreWholeButLast}
-use Rattle.scan_rounds.specs.Jobs.{count_unskipped, entries_of_jobs, unread_job_count}
-use Rattle.scan_rounds.specs.BlockFilter.{BlockFilter, unskipped_range, filter_of_skipping}
-use Rattle.scan_rounds.specs.ConsumedPages.{MapHasPages, PagesPredicate, PagesConsumed}
-use Rattle.scan_rounds.specs.declared.job.Ending.{Ending}
-use Rattle.scan_rounds.specs.declared.source.Blocks.{Blocks}
+use Rattle.scan_jobs.specs.Jobs.{IsNewJob, JobIsListed, answered_ending, AreWholeButLast}
+use Rattle.scan_jobs.specs.Jobs.{count_unskipped, entries_of_jobs, unread_job_count}
+use Rattle.scan_jobs.specs.BlockFilter.{BlockFilter, unskipped_range, filter_of_skipping}
+use Rattle.scan_jobs.specs.ConsumedPages.{MapHasPages, PagesPredicate, PagesConsumed}
+use Rattle.scan_jobs.specs.declared.job.Ending.{Ending}
+use Rattle.scan_jobs.specs.declared.source.Blocks.{Blocks}
 use Rattle.scan_rounds.specs.Rings.{IsRingOf}
 use Rattle.scan_rounds.specs.declared.disk_actor.DiskActor.{DiskActor}
 use Rattle.scan_rounds.specs.declared.backend.Backend.{Backend}
-use Rattle.scan_rounds.specs.declared.job.Job.{Job}
+use Rattle.scan_jobs.specs.declared.job.Job.{Job}
 use Rattle.scan_rounds.specs.declared.worker.Worker.{Worker}
 
 -- each of its handles can have so many lives more, at least
 abbrev pub ActorHasRoom : ℕ → ActorView → Type 0
 ActorHasRoom least a = (room : ℕ) × IsRoom a.known.config a.known room × (least ≤ room)
-
--- the blocks that a stream is to give
-abbrev pub entries_of_blocks : Blocks → List (Entry (Unit {0}))
-entries_of_blocks b = unskipped_range (filter_of_skipping b.by_map) b.relation b.first b.count
-
--- the pages of a map: so many of a relation, from the first on
-abbrev pub map_blocks : ℕ → ℕ → Blocks
-map_blocks relation pages =
-    record { relation = relation; first = 0; count = pages; by_map = None }
-
--- a stream of these blocks gives those that the jobs ask for, but for those that are left out
-pub record IsStreamOfJobs (b : Blocks) (jobs : List Job) : Type 0 where
-  pub some : 1 ≤ length jobs
-  pub relation_is : (j : Job) → (slice_index_or jobs 0 j).relation ≡ b.relation
-  pub entries : entries_of_blocks b ≡ entries_of_jobs (filter_of_skipping b.by_map) jobs
-  pub whole : AreWholeButLast (filter_of_skipping b.by_map) jobs
-  pub few : (b.count ≤ 64 * length jobs) × (b.count ≤ 4096)
-  pub within : b.first + b.count ≤ 2 ^ 32
 
 -- the options with which a backend lists
 abbrev pub backend_options : {W D : Type 0} → Backend W D → ListOptions

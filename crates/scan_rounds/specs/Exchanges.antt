@@ -11,18 +11,18 @@ use Rattle.handoff.specs.HandoffViews.{HandoffView, ClientView, IsClientOf}
 use Rattle.method_worker.specs.QueueViews.{QueueView}
 use Rattle.read_stream.specs.ActorProgress.{local_mark_count}
 use Rattle.aio_disk.specs.declared.disk.Disk.{Ghosts as DiskGhosts}
-use Rattle.scan_rounds.specs.BlockFilter.{BlockFilter}
+use Rattle.scan_jobs.specs.BlockFilter.{BlockFilter}
 use Rattle.scan_rounds.specs.DiskActors.{ActorHasRoom, DiskActorAdvanced, IsBackend}
 use Rattle.scan_rounds.specs.DiskActors.{backend_options}
-use Rattle.scan_rounds.specs.Jobs.{AllJobsAnswered, IsNewJob, count_unskipped, job_block_count}
-use Rattle.scan_rounds.specs.Jobs.{unread_job_count}
+use Rattle.scan_jobs.specs.Jobs.{AllJobsAnswered, IsNewJob, count_unskipped, job_block_count}
+use Rattle.scan_jobs.specs.Jobs.{unread_job_count}
 use Rattle.scan_settings.specs.ListOptions.{ListOptions}
 use Rattle.scan_rounds.specs.Shares.{AreTermsOf, ShareSpent, share_jobs}
 use Rattle.scan_rounds.specs.declared.exchange.Phase.{Phase}
 use Rattle.scan_rounds.specs.declared.exchange.Phase.TheVariants as phase
 use Rattle.scan_rounds.specs.declared.exchange.RunProgress.{RunProgress}
-use Rattle.scan_rounds.specs.declared.job.Job.{Job}
-use Rattle.scan_rounds.specs.declared.job_source.JobSource.{Ghosts as JobSourceGhosts}
+use Rattle.scan_jobs.specs.declared.job.Job.{Job}
+use Rattle.scan_jobs.specs.declared.job_source.JobSource.{Ghosts as JobSourceGhosts}
 use Rattle.scan_rounds.specs.declared.share.RunTerms.{RunTerms}
 use Rattle.scan_rounds.specs.declared.share.Share.{Share}
 use Rattle.scan_rounds.specs.declared.shared.SharedState.{SharedState}

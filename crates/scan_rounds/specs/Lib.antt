@@ -1,7 +1,3 @@
-pub mod BlockFilter
-pub mod Jobs
-pub mod ConsumedPages
-pub mod JobOutput
 pub mod Rings
 pub mod DiskActors
 pub mod Rounds

@@ -7,14 +7,14 @@ use Rattle.aio_disk.specs.Counts.{count_plus}
 use Rattle.aio_handle.specs.ContractViews.{TableView}
 use Rattle.method_worker.specs.QueueViews.{QueueView, SeatView}
 use Rattle.aio_disk.specs.declared.disk.Disk.{Ghosts as DiskGhosts}
-use Rattle.scan_rounds.specs.BlockFilter.{BlockFilter}
+use Rattle.scan_jobs.specs.BlockFilter.{BlockFilter}
 use Rattle.scan_rounds.specs.DiskActors.{DiskActorAdvanced, IsBackend}
-use Rattle.scan_rounds.specs.Jobs.{IsNewJob, count_unskipped, unread_job_count}
+use Rattle.scan_jobs.specs.Jobs.{IsNewJob, count_unskipped, unread_job_count}
 use Rattle.scan_settings.specs.ListOptions.{ListOptions}
 use Rattle.scan_rounds.specs.Rounds.{AllHaveOptions, AllJobsListed, IsLeastRoom, backend_disk_actor}
 use Rattle.scan_rounds.specs.Rounds.{failed_results_taken, results_taken_count}
 use Rattle.scan_rounds.specs.declared.backend.Backend.{Backend}
-use Rattle.scan_rounds.specs.declared.job.Job.{Job}
+use Rattle.scan_jobs.specs.declared.job.Job.{Job}
 use Rattle.scan_rounds.specs.declared.counts.Counts.{Counts}
 
 -- the seat has closed the queue, last under the number of its reopenings

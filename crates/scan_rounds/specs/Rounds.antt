@@ -8,22 +8,22 @@ use Rattle.aio_handle.specs.ContractViews.{TableView}
 use Rattle.heap_scan.specs.Job.{job_entries}
 use Rattle.vis_map.specs.Bits.{Map}
 use Rattle.method_worker.specs.QueueViews.{QueueView}
-use Rattle.read_stream.specs.StreamAnswers.{MayBeUnread}
+use Rattle.read_stream.specs.FailedReads.{MayBeUnread}
 use Rattle.aio_word.specs.Tokens.{failed_result_count}
 use Rattle.aio_disk.specs.declared.disk.Disk.{Ghosts as DiskGhosts}
 use Rattle.scan_rounds.specs.DiskActors.{WorkerServed, BackendReadMap, ActorHasRoom}
 use Rattle.scan_rounds.specs.DiskActors.{BackendAdvanced, IsBackend, backend_options}
 use Rattle.read_stream.specs.ActorProgress.{local_mark_count}
 use Rattle.scan_settings.specs.ListOptions.{ListOptions}
-use Rattle.scan_rounds.specs.Jobs.{IsNewJob, JobIsListed, answered_ending, count_unskipped}
-use Rattle.scan_rounds.specs.Jobs.{unread_job_count}
-use Rattle.scan_rounds.specs.BlockFilter.{BlockFilter}
-use Rattle.scan_rounds.specs.ConsumedPages.{MapHasPages, PagesConsumed}
-use Rattle.scan_rounds.specs.declared.job.Ending.{Ending}
+use Rattle.scan_jobs.specs.Jobs.{IsNewJob, JobIsListed, answered_ending, count_unskipped}
+use Rattle.scan_jobs.specs.Jobs.{unread_job_count}
+use Rattle.scan_jobs.specs.BlockFilter.{BlockFilter}
+use Rattle.scan_jobs.specs.ConsumedPages.{MapHasPages, PagesConsumed}
+use Rattle.scan_jobs.specs.declared.job.Ending.{Ending}
 use Rattle.scan_rounds.specs.declared.disk_actor.DiskActor.{DiskActor}
 use Rattle.scan_rounds.specs.declared.backend.Backend.{Backend}
 use Rattle.scan_rounds.specs.declared.worker.Worker.{Worker}
-use Rattle.scan_rounds.specs.declared.job.Job.{Job}
+use Rattle.scan_jobs.specs.declared.job.Job.{Job}
 
 module _ {W D : Type 0} where
   abbrev pub backend_disk_actor : Backend W D → DiskActor W D

@@ -7,7 +7,7 @@ use Rattle.aio_handle.specs.ContractViews.{TableView}
 use Rattle.handoff.specs.HandoffViews.{HandoffView, ClientView}
 use Rattle.method_worker.specs.QueueViews.{QueueView}
 use Rattle.aio_disk.specs.declared.disk.Disk.{Ghosts as DiskGhosts}
-use Rattle.scan_rounds.specs.BlockFilter.{BlockFilter}
+use Rattle.scan_jobs.specs.BlockFilter.{BlockFilter}
 use Rattle.scan_rounds.specs.DiskActors.{DiskActorAdvanced, IsBackend}
 use Rattle.scan_rounds.specs.Exchanges.{AreClientsOf, ClientsHold, MayExchange, ShareHasRoom}
 use Rattle.scan_rounds.specs.Exchanges.{SourceLed}
@@ -18,7 +18,7 @@ use Rattle.scan_rounds.specs.Rounds.{AllBackendsHaveRoom, AllHaveOptions, backen
 use Rattle.scan_rounds.specs.Rounds.{failed_results_taken, results_taken_count}
 use Rattle.scan_rounds.specs.declared.backend.Backend.{Backend}
 use Rattle.scan_rounds.specs.declared.exchange.RunProgress.{RunProgress}
-use Rattle.scan_rounds.specs.declared.job_source.JobSource.{Ghosts as JobSourceGhosts}
+use Rattle.scan_jobs.specs.declared.job_source.JobSource.{Ghosts as JobSourceGhosts}
 use Rattle.scan_rounds.specs.declared.run_memory.RunMemory.{RunMemory}
 use Rattle.scan_rounds.specs.declared.share.RunTerms.{RunTerms}
 use Rattle.scan_rounds.specs.declared.share.Share.{Share}

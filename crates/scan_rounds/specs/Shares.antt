@@ -10,10 +10,10 @@ use Rattle.read_stream.specs.ActorProgress.{local_mark_count}
 use Rattle.aio_disk.specs.declared.disk.Disk.{Ghosts as DiskGhosts}
 use Rattle.vis_map.specs.Bits.{Map}
 use Rattle.vis_map.specs.declared.map.Skip.{Skip}
-use Rattle.scan_rounds.specs.BlockFilter.{BlockFilter, map_filter}
+use Rattle.scan_jobs.specs.BlockFilter.{BlockFilter, map_filter}
 use Rattle.scan_rounds.specs.DiskActors.{ActorHasRoom, BackendAdvanced, IsBackend, backend_options}
-use Rattle.scan_rounds.specs.Jobs.{AllJobsAnswered, IsNewJob, count_unskipped, unread_job_count}
-use Rattle.scan_rounds.specs.declared.job.Job.{Job}
+use Rattle.scan_jobs.specs.Jobs.{AllJobsAnswered, IsNewJob, count_unskipped, unread_job_count}
+use Rattle.scan_jobs.specs.declared.job.Job.{Job}
 use Rattle.scan_rounds.specs.declared.share.RunTerms.{RunTerms}
 use Rattle.scan_rounds.specs.declared.share.Share.{Share}
 use Rattle.scan_rounds.specs.declared.shared.SharedState.{SharedState}

@@ -1,22 +1,22 @@
 //! A backend: an actor with its disk and its desk.
 ghost use Rattle.std.specs.Prelude.{◌≡◌, ◌<◌, ◌*◌, [], IfSome, is_some};
 ghost use Rattle.method_worker.specs.QueueViews.{IsSeatOf};
-ghost use Rattle.read_stream.specs.StreamAnswers.{MayBeUnread};
+ghost use Rattle.read_stream.specs.FailedReads.{MayBeUnread};
 ghost use Rattle.scan_rounds.specs.DiskActors.{BackendListed, BackendMayList, BackendReadMap};
-ghost use Rattle.scan_rounds.specs.DiskActors.{ActorHasRoom, IsBackend, IsStreamOfJobs};
-ghost use Rattle.scan_rounds.specs.BlockFilter.{filter_of_skipping};
+ghost use Rattle.scan_rounds.specs.DiskActors.{ActorHasRoom, IsBackend};
+ghost use Rattle.scan_jobs.specs.StreamBlocks.{IsStreamOfJobs};
+ghost use Rattle.scan_jobs.specs.BlockFilter.{filter_of_skipping};
 ghost use Rattle.scan_rounds.specs.Progress.{HasClosed};
 
 use crate::disk_actor::{DiskActor, HasDiskActor};
-use crate::job::{Ending, Job};
 use crate::ring::IdleRingState;
 use crate::shared::SharedState;
-use crate::source::Blocks;
 use aio_disk::Disk;
 use method_sync::SyncMethod;
 use method_worker::{QueueSeat, WorkerMethod};
 use page_check::World;
 use read_stream::Desk;
+use scan_jobs::{Blocks, Ending, Job};
 use std::sync::Wait;
 use vis_map::VisMap;
 

@@ -6,17 +6,14 @@ ghost use Rattle.scan_rounds.specs.DiskActors.{WorkerMayServe, WorkerServed};
 ghost use Rattle.scan_rounds.specs.Progress.{BackendsMadeRound, BackendsMayMakeRound};
 ghost use Rattle.scan_rounds.specs.Progress.{IsClosedByFirst};
 ghost use Rattle.scan_rounds.specs.Rounds.{AllWorkersServed};
-ghost use Rattle.scan_rounds.specs.BlockFilter.{filter_of_skipping};
+ghost use Rattle.scan_jobs.specs.BlockFilter.{filter_of_skipping};
 ghost use Rattle.scan_rounds.specs.RunLeads.{MayLeadRun, RunLed};
 ghost use Rattle.scan_rounds.specs.Shares.{AreTermsOf};
 
 use crate::backend::Backend;
 use crate::counts::Counts;
 use crate::exchange::RunProgress;
-use crate::job::Job;
-use crate::job_source::JobSource;
 use crate::lead::lead_run;
-use crate::map_filter::MapFilter;
 use crate::rounds::make_round;
 use crate::servers::serve_all;
 use crate::share::{ShareClient, ShareHandoff};
@@ -24,9 +21,16 @@ use crate::shared::SharedState;
 use crate::worker::Worker;
 use aio_disk::Disk;
 use page_check::World;
+use scan_jobs::{Job, JobSource, MapFilter};
 use std::sync::Wait;
 use std::thread;
 use std::thread::Threads;
+
+/// As many threads as a scan has workers at most: each worker has one of its own.
+const WORKER_THREADS: usize = 32;
+
+/// No thread but the caller's, where the queue is closed already: the workers execute what is left.
+pub(crate) const CALLER_THREAD: usize = 1;
 
 fn serve_one<W: World, D: Disk, R: Wait>(rt: &R, shared: &SharedState<W>, worker: &mut Worker<W, D>)
     requires may { WorkerMayServe D.Disk W.World shared.now.table shared.now.queue worker.old }
@@ -80,7 +84,7 @@ fn serve_run<'a, 'b, W: World + Send + Sync, D: Disk, R: Threads + Wait + Sync>(
         shared.now.queue workers.old workers.new }
 {
     if handoffs.len() == 1 {
-        run_workers(rt, shared, workers, 32);
+        run_workers(rt, shared, workers, WORKER_THREADS);
         return;
     }
     if workers.is_empty() {
@@ -92,7 +96,7 @@ fn serve_run<'a, 'b, W: World + Send + Sync, D: Disk, R: Threads + Wait + Sync>(
             shared.now.queue) workers.now }
         ensures { AllWorkersServed D.Disk W.World shared.entry.now.table
             shared.entry.now.queue workers.entry.now workers.exit.now }
-    { run_workers(rt, shared, workers, 32) };
+    { run_workers(rt, shared, workers, WORKER_THREADS) };
     let mut serve = ||
         requires { IsSync R.row × All (λ h. AreTermsOf h.key shared.now
             (filter_of_skipping by_map.now)) handoffs.now }
@@ -202,7 +206,7 @@ pub(crate) fn round_beside<'a, W: World + Send + Sync, D: Disk, R: Threads + Wai
             shared.now.queue) workers.now }
         ensures { AllWorkersServed D.Disk W.World shared.entry.now.table
             shared.entry.now.queue workers.entry.now workers.exit.now }
-    { run_workers(rt, shared, workers, 32) };
+    { run_workers(rt, shared, workers, WORKER_THREADS) };
     let mut round = ||
         requires { IsSync R.row × BackendsMayMakeRound D.Disk W.World shared.now.table
             shared.now.queue backends.now jobs.now counts.now }

@@ -5,16 +5,15 @@ ghost use Rattle.scan_rounds.specs.Calls.{ScanReadMap, ScanMadeRound, ScanMayRea
 ghost use Rattle.scan_rounds.specs.Calls.{ScanMayMakeRound};
 ghost use Rattle.scan_rounds.specs.DiskActors.{IsBackend};
 ghost use Rattle.scan_rounds.specs.Rounds.{AllBackendsHaveRoom, FirstBackendReadMap};
-ghost use Rattle.scan_rounds.specs.BlockFilter.{map_filter};
+ghost use Rattle.scan_jobs.specs.BlockFilter.{map_filter};
 
 use crate::backend::Backend;
 use crate::counts::{count_one, least_room};
-use crate::job::{Ending, Job};
-use crate::map_filter::MapFilter;
 use crate::scan::Scan;
 use crate::shared::SharedState;
 use aio_disk::Disk;
 use page_check::World;
+use scan_jobs::{Ending, Job, MapFilter};
 use std::sync::Wait;
 use std::thread::Threads;
 use vis_map::{Skip, VisMap};

@@ -1,13 +1,13 @@
 //! What a round counts: the lives that are left, and the jobs that ended in Unread.
 ghost use Rattle.std.specs.Prelude.{◌≡◌, ◌≤◌, length};
 ghost use Rattle.aio_disk.specs.Counts.{count_plus};
-ghost use Rattle.scan_rounds.specs.Jobs.{unread_job_count, unread_ending_count};
+ghost use Rattle.scan_jobs.specs.Jobs.{unread_job_count, unread_ending_count};
 ghost use Rattle.scan_rounds.specs.Rounds.{IsLeastRoom};
 
 use crate::backend::Backend;
-use crate::job::{Ending, Job};
 use aio_disk::Disk;
 use page_check::World;
+use scan_jobs::{Ending, Job};
 
 /// What a scan counts over its rounds.
 #[derive(Clone, Copy)]

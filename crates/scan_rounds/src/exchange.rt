@@ -1,26 +1,24 @@
 //! The caller's thread in a run: it takes shares back and gives them out again.
 ghost use Rattle.std.specs.Prelude.{◌≡◌, ◌≤◌, ◌<◌, ◌≢◌, ℕ, [], ◌∷◌, length, take, List, Some};
-ghost use Rattle.std.specs.Prelude.{None, true};
+ghost use Rattle.std.specs.Prelude.{None, true, false};
 ghost use Rattle.std.specs.List.{All};
 ghost use Rattle.handoff.specs.HandoffViews.{IsClientOf, IsSameClient};
-ghost use Rattle.scan_rounds.specs.BlockFilter.{filter_of_skipping};
+ghost use Rattle.scan_jobs.specs.BlockFilter.{filter_of_skipping};
 ghost use Rattle.scan_rounds.specs.Exchanges.{AreClientsOf, ClientsHold, JobsAsked, JobsTakenBack};
 ghost use Rattle.scan_rounds.specs.Exchanges.{MayExchange, NothingIsOut};
 ghost use Rattle.scan_rounds.specs.Exchanges.{ShareStandsIn, ShareTakenBack, SharesAdvanced};
 ghost use Rattle.scan_rounds.specs.Exchanges.{SharesExchanged, SomeGiven};
-ghost use Rattle.scan_rounds.specs.Jobs.{IsNewJob};
+ghost use Rattle.scan_jobs.specs.Jobs.{IsNewJob};
 ghost use Rattle.scan_rounds.specs.Shares.{AreTermsOf, ShareMayBeListed};
 ghost use Rattle.scan_rounds.specs.declared.share.Share.{Share};
 
 use crate::counts::count_unread;
-use crate::job::Job;
-use crate::job_source::JobSource;
-use crate::map_filter::MapFilter;
 use crate::share::{Share, ShareClient, ShareHandoff, list_share};
 use crate::shared::SharedState;
 use aio_disk::Disk;
 use handoff::Completion;
 use page_check::World;
+use scan_jobs::{Job, JobSource, MapFilter};
 use std::mem;
 use std::sync::Wait;
 
@@ -38,7 +36,8 @@ pub(crate) enum Phase {
 impl Phase {
     // Whether jobs that were listed are taken back.
     fn takes_back(self) -> bool
-        ensures { self ≢ Phase.Stopped → result ≡ true }
+        ensures wanted { self ≢ Phase.Stopped → result ≡ true }
+        ensures in_vain { self ≡ Phase.Stopped → result ≡ false }
     {
         !matches!(self, Phase::Stopped)
     }

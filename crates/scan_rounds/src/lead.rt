@@ -1,7 +1,7 @@
 //! A run, led by the caller's thread: its shares go out, go round, and come back.
 ghost use Rattle.std.specs.Prelude.{◌≡◌, ◌≤◌, ◌+◌, ◌++◌, length, List, Option, map, vec_capacity};
 ghost use Rattle.std.specs.List.{All, AllZip};
-ghost use Rattle.scan_rounds.specs.BlockFilter.{BlockFilter, filter_of_skipping};
+ghost use Rattle.scan_jobs.specs.BlockFilter.{BlockFilter, filter_of_skipping};
 ghost use Rattle.scan_rounds.specs.Exchanges.{AreClientsOf, ClientsHold};
 ghost use Rattle.scan_rounds.specs.RunLeads.{BackendsMayGoOut, AreIdle, IsNewShare, MayLeadRun};
 ghost use Rattle.scan_rounds.specs.RunLeads.{RunLed, share_backend};
@@ -10,14 +10,12 @@ ghost use Rattle.scan_rounds.specs.declared.share.Share.{Share};
 
 use crate::backend::Backend;
 use crate::exchange::{RunProgress, exchange_until_over, take_share};
-use crate::job::Job;
-use crate::job_source::JobSource;
-use crate::map_filter::MapFilter;
 use crate::rounds::close_queue;
 use crate::share::{Share, ShareClient, ShareHandoff};
 use crate::shared::SharedState;
 use aio_disk::Disk;
 use page_check::World;
+use scan_jobs::{Job, JobSource, MapFilter};
 use std::sync::Wait;
 
 /// Gives the backends out, each with a list of this many places for jobs. None is asked for yet.

@@ -4,26 +4,24 @@ ghost use Rattle.aio_word.specs.Events.{lives_ended};
 ghost use Rattle.aio_handle.specs.EndStates.{HasNoOwnerTokens};
 ghost use Rattle.aio_handle.specs.FreeHandles.{IsRoom};
 ghost use Rattle.aio_handle.specs.ContractViews.{IsActorOf, IsSameActor};
-ghost use Rattle.read_stream.specs.StreamAnswers.{MayBeUnread, stream_entries};
+ghost use Rattle.read_stream.specs.FailedReads.{MayBeUnread};
+ghost use Rattle.stream_answer.specs.StreamAnswers.{stream_entries};
 ghost use Rattle.read_stream.specs.Desks.{IsFreeDesk};
 ghost use Rattle.read_stream.specs.StreamState.{IsOpenFor, stream_view};
 ghost use Rattle.read_stream.specs.StreamViews.{CallAdvanced, IsSameStream};
 ghost use Rattle.read_stream.specs.ActorProgress.{ActorAdvanced, local_mark_count};
-ghost use Rattle.scan_rounds.specs.DiskActors.{entries_of_blocks};
-ghost use Rattle.scan_rounds.specs.Jobs.{answered_ending};
-ghost use Rattle.scan_rounds.specs.ConsumedPages.{PagesConsumed};
+ghost use Rattle.scan_jobs.specs.StreamBlocks.{entries_of_blocks};
+ghost use Rattle.scan_jobs.specs.Jobs.{answered_ending};
+ghost use Rattle.scan_jobs.specs.ConsumedPages.{PagesConsumed};
 
-use crate::consumer::Consumer;
-use crate::job::Ending;
-use crate::loan::end_borrow;
-use crate::source::{Blocks, UnskippedBlocks};
 use aio_batch::Method;
 use aio_callback::ReadIo;
 use aio_handle::{Actor, Execute, Table};
 use block_source::BlockSource;
 use buf_pool::Pool;
 use page_check::World;
-use read_stream::{Desk, ReadStream};
+use read_stream::{Desk, ReadStream, end_borrow};
+use scan_jobs::{Blocks, Consumer, Ending, UnskippedBlocks};
 use std::sync::Wait;
 
 // The consumer takes what the stream answers, up to its end.

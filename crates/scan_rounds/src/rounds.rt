@@ -2,23 +2,21 @@
 ghost use Rattle.std.specs.Prelude.{◌≡◌, ◌≤◌, ◌∷◌, [], length, map};
 ghost use Rattle.std.specs.List.{All};
 ghost use Rattle.std.specs.Thread.{IsSync};
-ghost use Rattle.read_stream.specs.StreamAnswers.{MayBeUnread};
+ghost use Rattle.read_stream.specs.FailedReads.{MayBeUnread};
 ghost use Rattle.scan_settings.specs.ListOptions.{ListOptions};
 ghost use Rattle.scan_rounds.specs.DiskActors.{BackendListed, BackendMayList, IsBackend};
 ghost use Rattle.scan_rounds.specs.Progress.{BackendsMadeRound, BackendsMayMakeRound};
 ghost use Rattle.scan_rounds.specs.Progress.{IsClosedByFirst};
 ghost use Rattle.scan_rounds.specs.Rounds.{AllHaveOptions, RoundListed, RoundMayBeListed};
 ghost use Rattle.scan_rounds.specs.Rounds.{backend_disk_actor};
-ghost use Rattle.scan_rounds.specs.BlockFilter.{filter_of_skipping};
+ghost use Rattle.scan_jobs.specs.BlockFilter.{filter_of_skipping};
 
 use crate::backend::Backend;
 use crate::counts::{Counts, count_unread, least_room};
-use crate::job::Job;
-use crate::map_filter::MapFilter;
-use crate::neighbours::neighbours;
 use crate::shared::SharedState;
 use aio_disk::Disk;
 use page_check::World;
+use scan_jobs::{Job, MapFilter, neighbouring_jobs};
 use std::sync::Wait;
 use std::thread::Threads;
 use std::{slice, thread};
@@ -58,7 +56,7 @@ fn list_job<W: World, D: Disk, R: Wait>(
         (filter_of_skipping by_map.entry) backend.old backend.new (job.old ∷ []) (job.new ∷ []) }
 {
     let jobs = slice::from_mut(job);
-    let (_, blocks) = neighbours(jobs, by_map);
+    let (_, blocks) = neighbouring_jobs(jobs, by_map);
     backend.list(rt, shared, blocks, jobs);
 }
 

@@ -5,19 +5,17 @@ ghost use Rattle.method_worker.specs.QueueViews.{IsSeatOf};
 ghost use Rattle.scan_rounds.specs.Calls.{ScanRanSource, ScanMadeRound, ScanMayRunSource};
 ghost use Rattle.scan_rounds.specs.Calls.{ScanMayMakeRound};
 ghost use Rattle.scan_rounds.specs.Scans.{IsOpenedAgain};
-ghost use Rattle.scan_rounds.specs.BlockFilter.{filter_of_skipping};
+ghost use Rattle.scan_jobs.specs.BlockFilter.{filter_of_skipping};
 
 use crate::backend::Backend;
 use crate::beside::round_beside;
 use crate::counts::{Counts, least_room};
-use crate::job::Job;
-use crate::job_source::JobSource;
-use crate::map_filter::MapFilter;
 use crate::run_shares::run_backends;
 use crate::scan::Scan;
 use crate::shared::SharedState;
 use aio_disk::Disk;
 use page_check::World;
+use scan_jobs::{Job, JobSource, MapFilter};
 use std::sync::Wait;
 use std::thread::Threads;
 

@@ -4,11 +4,11 @@ ghost use Rattle.std.specs.List.{All};
 ghost use Rattle.scan_rounds.specs.Exchanges.{AreClientsOf};
 ghost use Rattle.scan_rounds.specs.RunLeads.{AreIdle, IsRunMemory};
 
-use crate::job::Job;
 use crate::share::{RunTerms, ShareClient, ShareHandoff};
 use aio_disk::Disk;
 use handoff::Handoff;
 use page_check::World;
+use scan_jobs::Job;
 use std::alloc::{AllocError, Global};
 
 /// How many jobs of 64 blocks are in a share at most. To give a share to a thread that sleeps, and
@@ -16,9 +16,9 @@ use std::alloc::{AllocError, Global};
 /// is written.
 const SHARE_JOBS: usize = 8;
 
-/// How many jobs are in a share at most, with so many backends and workers. One thread alone waits
+/// How many places for jobs a share has, with so many backends and workers. One thread alone waits
 /// for nobody, and one text at a time stays in its cache.
-pub(crate) fn share_jobs(backends: usize, workers: usize) -> usize
+pub(crate) fn share_places(backends: usize, workers: usize) -> usize
     ensures { 1 ≤ result }
 {
     if backends == 1 && workers == 0 {

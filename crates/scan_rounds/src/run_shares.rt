@@ -1,7 +1,7 @@
 //! A whole run: by shares in threads, or without memory for them.
 ghost use Rattle.std.specs.Prelude.{◌≤◌, ◌<◌, ℕ, length, List, Option};
 ghost use Rattle.std.specs.List.{All};
-ghost use Rattle.scan_rounds.specs.BlockFilter.{BlockFilter, filter_of_skipping};
+ghost use Rattle.scan_jobs.specs.BlockFilter.{BlockFilter, filter_of_skipping};
 ghost use Rattle.scan_rounds.specs.DiskActors.{WorkerMayServe};
 ghost use Rattle.scan_rounds.specs.Exchanges.{ClientsHold, MayExchange, SharesAdvanced};
 ghost use Rattle.scan_rounds.specs.RunLeads.{BackendsMayRun, BackendsRan, IsRunMemory};
@@ -12,19 +12,17 @@ ghost use Rattle.scan_rounds.specs.declared.share.RunTerms.{RunTerms};
 ghost use Rattle.scan_rounds.specs.declared.share.Share.{Share};
 
 use crate::backend::Backend;
-use crate::beside::{run_beside, run_workers};
+use crate::beside::{CALLER_THREAD, run_beside, run_workers};
 use crate::exchange::{Phase, RunProgress, exchange_all};
-use crate::job::{Ending, Job};
-use crate::job_source::JobSource;
 use crate::lead::{give_out_backends, lead_run};
-use crate::map_filter::MapFilter;
 use crate::rounds::close_queue;
-use crate::run_memory::{RunMemory, share_jobs};
+use crate::run_memory::{RunMemory, share_places};
 use crate::share::{RunTerms, ShareClient, ShareHandoff};
 use crate::shared::SharedState;
 use crate::worker::Worker;
 use aio_disk::Disk;
 use page_check::World;
+use scan_jobs::{Ending, Job, JobSource, MapFilter};
 use std::alloc::Global;
 use std::sync::Wait;
 use std::thread::Threads;
@@ -115,7 +113,7 @@ fn run_shares<W: World + Send + Sync, D: Disk, R: Threads + Wait + Sync, A: JobS
             backends,
             &mut progress,
         );
-        run_workers(rt, shared, workers, 1);
+        run_workers(rt, shared, workers, CALLER_THREAD);
     }
     (progress.job_source, progress.unread)
 }
@@ -157,7 +155,7 @@ fn refuse_run<W: World + Send + Sync, D: Disk, R: Threads + Wait + Sync, A: JobS
 {
     refuse_jobs(alloc, job_source);
     close_queue(rt, shared, backends);
-    run_workers(rt, shared, workers, 1);
+    run_workers(rt, shared, workers, CALLER_THREAD);
 }
 
 /// All jobs of a job source: by shares, or without memory for them. The answer is the job source,
@@ -187,7 +185,7 @@ pub(crate) fn run_backends<
         backends.old.items backends.new.items job_source result.0 unread result.1 }
 {
     let terms = RunTerms::of(shared, by_map);
-    let places = share_jobs(backends.len(), workers.len());
+    let places = share_places(backends.len(), workers.len());
     match RunMemory::open(alloc, &terms, backends.len(), places) {
         Ok(memory) => run_shares(
             rt, shared, by_map, workers, backends, memory, job_source, unread,

@@ -1,14 +1,14 @@
 //! The threads in which the backends of a run list their shares.
 ghost use Rattle.std.specs.List.{All};
 ghost use Rattle.std.specs.Thread.{IsSync};
-ghost use Rattle.scan_rounds.specs.BlockFilter.{filter_of_skipping};
+ghost use Rattle.scan_jobs.specs.BlockFilter.{filter_of_skipping};
 ghost use Rattle.scan_rounds.specs.Shares.{AreTermsOf};
 
-use crate::map_filter::MapFilter;
 use crate::share::{ShareHandoff, list_share};
 use crate::shared::SharedState;
 use aio_disk::Disk;
 use page_check::World;
+use scan_jobs::MapFilter;
 use std::sync::Wait;
 use std::thread;
 use std::thread::Threads;

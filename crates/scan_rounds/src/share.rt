@@ -1,17 +1,15 @@
 //! What a backend is given to list in a thread of its own, and what comes back.
 ghost use Rattle.std.specs.Prelude.{None, ⊤};
-ghost use Rattle.scan_rounds.specs.BlockFilter.{filter_of_skipping};
+ghost use Rattle.scan_jobs.specs.BlockFilter.{filter_of_skipping};
 ghost use Rattle.scan_rounds.specs.DiskActors.{BackendListed, BackendMayList};
 ghost use Rattle.scan_rounds.specs.Shares.{AreTermsOf, ShareListed, ShareMayBeListed, terms_filter};
 
 use crate::backend::Backend;
-use crate::job::Job;
-use crate::map_filter::MapFilter;
-use crate::neighbours::neighbours;
 use crate::shared::SharedState;
 use aio_disk::Disk;
 use handoff::{Client, Handoff, Service};
 use page_check::World;
+use scan_jobs::{Job, MapFilter, neighbouring_jobs};
 use std::marker::PhantomData;
 use std::snapshot::Snapshot;
 use std::sync::Wait;
@@ -88,7 +86,7 @@ fn do_jobs<W: World, D: Disk, T: Wait>(
     if jobs.is_empty() {
         return;
     }
-    let (many, blocks) = neighbours(jobs, by_map);
+    let (many, blocks) = neighbouring_jobs(jobs, by_map);
     let (first, later) = jobs.split_at_mut(many);
     backend.list(rt, shared, blocks, first);
     do_jobs(rt, shared, by_map, backend, later);

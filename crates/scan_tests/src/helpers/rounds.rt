@@ -3,7 +3,7 @@ ghost use Rattle.std.specs.Prelude.{◌≡◌, ◌*◌, ◌^◌, ◌<◌, ◌≤
 ghost use Rattle.std.specs.Prelude.{string_bytes};
 ghost use Rattle.std.specs.List.{All};
 ghost use Rattle.aio_disk.specs.Shelf.{shelf_told};
-ghost use Rattle.scan_rounds.specs.Jobs.{IsNewJob};
+ghost use Rattle.scan_jobs.specs.Jobs.{IsNewJob};
 ghost use Rattle.scan_settings.specs.Settings.{AreValidScanSettings};
 ghost use Rattle.scan_rounds.specs.Scans.{IsScan};
 

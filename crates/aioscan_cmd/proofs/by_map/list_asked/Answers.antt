@@ -12,11 +12,11 @@ use Rattle.aioscan_cmd.proofs.MapCommandOutput.{all_asked, map_added, map_follow
 use Rattle.aioscan_cmd.proofs.MapCommandOutput.{map_stopped, without_map}
 use Rattle.aioscan_cmd.proofs.MapCommandOutput.{as_many, asks_for_map, pages_asked, unread_out}
 use Rattle.aioscan_cmd.proofs.MapPagesThenBlocks.{format_with_map}
-use Rattle.aioscan_cmd.proofs.JobTextOutput.{not_write}
+use Rattle.lister.proofs.JobTextOutput.{not_write}
 use Rattle.run_report.proofs.OutputsAppend.{lists_nothing}
 use Rattle.request_list.proofs.MapPageCount.{all_of_zero, has_two}
 use Rattle.run_report.proofs.ErrorTextsAppend.{tells_same, warns_also, warns_none, warns_then}
-use Rattle.aioscan_cmd.proofs.JobSumsAdd.{ended_done}
+use Rattle.lister.proofs.JobSumsAdd.{ended_done}
 use Rattle.aioscan_cmd.proofs.by_map.list_asked.Goals as goal
 
 pub returns-in-None-clause-listed : goal.returns-in-None-clause-listed

@@ -1,18 +1,18 @@
 use Rattle.std.proofs.Common.{◌∙◌, List, length, rules, refl, sym, ap, arith, subst}
 use Rattle.page_check.specs.declared.rules.PageRules.{PageRules}
 use Rattle.scan_settings.specs.ListOptions.{ListOptions, list_options}
-use Rattle.scan_rounds.specs.BlockFilter.{filter_of_skipping, unskipped_entries}
+use Rattle.scan_jobs.specs.BlockFilter.{filter_of_skipping, unskipped_entries}
 use Rattle.command_line.specs.Command.{options_of_settings}
 use Rattle.request_list.specs.RemainingRequests.{resolved_parts, resolved_settings}
 use Rattle.request_list.specs.RequestList.{Part, Request, blocks_of_parts}
 use Rattle.run_report.specs.ErrorLine.{AppendsErrorText, error_stream}
-use Rattle.aioscan_cmd.specs.ListerState.{unskipped_parts}
+use Rattle.lister.specs.ListerState.{unskipped_parts}
 use Rattle.run_report.specs.Output.{IsOutput, WriteFaultsCounted, format_of_options}
 use Rattle.run_report.specs.Sums.{HasSums}
-use Rattle.aioscan_cmd.proofs.ListerJobsCompose.{all_listed, all_written}
-use Rattle.aioscan_cmd.proofs.JobSumsAdd.{summed_told, zero_sums}
+use Rattle.lister.proofs.ListerJobsCompose.{all_listed, all_written}
+use Rattle.lister.proofs.JobSumsAdd.{summed_told, zero_sums}
 use Rattle.request_list.proofs.RemainingRequestsStep.{resolved_blocks}
-use Rattle.aioscan_cmd.proofs.UnskippedBlocksAppend.{resolved_unskipped}
+use Rattle.lister.proofs.UnskippedBlocksAppend.{resolved_unskipped}
 use Rattle.aioscan_cmd.proofs.list_jobs.list_jobs.Goals as goal
 
 pub returns-clause-lists : goal.returns-clause-lists

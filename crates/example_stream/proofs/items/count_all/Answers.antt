@@ -1,6 +1,6 @@
 use Rattle.std.proofs.Common.{◌+◌, [], ◌∷◌, refl, sym, ap, ◌∙◌, subst, arith}
 use Rattle.page_check.specs.SynchronousAnswer.{Ending}
-use Rattle.read_stream.specs.StreamAnswers.{MayBeUnread}
+use Rattle.read_stream.specs.FailedReads.{MayBeUnread}
 use Rattle.read_stream.specs.StreamState.{stream_view}
 use Rattle.read_stream.specs.StreamViews.{StreamView, answer_of}
 use Rattle.read_stream.proofs.CallersView.{later_by_call, same_stream_later}

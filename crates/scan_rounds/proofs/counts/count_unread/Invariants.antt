@@ -1,6 +1,6 @@
 use Rattle.std.proofs.Common.{◌≡◌, take}
 use Rattle.aio_disk.specs.Counts.{count_plus}
-use Rattle.scan_rounds.specs.Jobs.{unread_job_count}
+use Rattle.scan_jobs.specs.Jobs.{unread_job_count}
 use Rattle.scan_rounds.proofs.counts.count_unread.Given as goal
 
 abbrev pub invariant-loop-job : goal.invariant-loop-job

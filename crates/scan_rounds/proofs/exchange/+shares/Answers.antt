@@ -1,14 +1,14 @@
 use Rattle.std.proofs.Common.{[], ◌∷◌, arith, ap, sym, subst, length}
 use Rattle.std.specs.List.{All}
 use Rattle.std.proofs.lemmas.List.Elements.{All-tail}
-use Rattle.scan_rounds.specs.BlockFilter.{filter_of_skipping}
+use Rattle.scan_jobs.specs.BlockFilter.{filter_of_skipping}
 use Rattle.scan_rounds.specs.Exchanges.{ClientsHold, ShareStandsIn, SharesExchanged}
 use Rattle.scan_rounds.specs.Shares.{AreTermsOf}
 use Rattle.scan_rounds.specs.declared.share.Share.{Share}
 use Rattle.scan_rounds.proofs.ListPairs.{all_split, zip-length}
-use Rattle.scan_rounds.proofs.SharesCompose.{all_stand_on, none_exchanged, none_given}
-use Rattle.scan_rounds.proofs.SharesCompose.{shares_beside, some_beside}
-use Rattle.scan_rounds.proofs.SharesOfClients.{first_share, held_first, held_none}
+use Rattle.scan_rounds.proofs.share_laws.SharesCompose.{all_stand_on, none_exchanged, none_given}
+use Rattle.scan_rounds.proofs.share_laws.SharesCompose.{shares_beside, some_beside}
+use Rattle.scan_rounds.proofs.share_laws.SharesOfClients.{first_share, held_first, held_none}
 use Rattle.scan_rounds.proofs.exchange.+shares.Goals as goal
 
 pub returns-in_default-clause-exchanged : goal.returns-in_default-clause-exchanged

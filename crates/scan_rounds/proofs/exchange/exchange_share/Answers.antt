@@ -1,12 +1,12 @@
 use Rattle.std.proofs.Common.{◌≡◌, ◌∙◌, arith, ap, refl, rules, length, List}
 use Rattle.std.specs.Vec.{with_items}
 use Rattle.std.proofs.lemmas.List.{with_items_is}
-use Rattle.scan_rounds.specs.BlockFilter.{filter_of_skipping}
+use Rattle.scan_jobs.specs.BlockFilter.{filter_of_skipping}
 use Rattle.scan_rounds.specs.Shares.{share_jobs}
-use Rattle.scan_rounds.specs.declared.job.Job.{Job}
+use Rattle.scan_jobs.specs.declared.job.Job.{Job}
 use Rattle.scan_rounds.specs.declared.share.Share.{Share}
-use Rattle.scan_rounds.proofs.SharesExchange.{may_go_out, one_exchanged, one_given}
-use Rattle.scan_rounds.proofs.SharesOfClients.{request_of}
+use Rattle.scan_rounds.proofs.share_laws.SharesExchange.{may_go_out, one_exchanged, one_given}
+use Rattle.scan_rounds.proofs.share_laws.SharesOfClients.{request_of}
 use Rattle.scan_rounds.proofs.exchange.exchange_share.Goals as goal
 
 pub first_blocks-blocks-requires : goal.first_blocks-blocks-requires
@@ -56,12 +56,12 @@ returns-clause-exchanged g c = λ s is.
       one_exchanged _ _ _ _ g.A.JobSource s y r c.args.progress.now _ _ gave
           c.takes_back-wanted.result (filter_of_skipping c.args.by_map)
           (c.requires.stands s is) (c.take_share-backend.ensures.taken s is) asked refl items
-          _ came finished many (search rules) back c.requires.filter c.takes_back-wanted.ensures
+          _ came finished many (search rules) back c.requires.filter c.takes_back-wanted.ensures.wanted
           more,
       one_given _ _ _ _ g.A.JobSource s y r c.args.progress.now _ _ gave
           c.takes_back-wanted.result (filter_of_skipping c.args.by_map)
           (c.requires.stands s is) (c.take_share-backend.ensures.taken s is) asked refl items
-          _ came finished many (search rules) back c.requires.filter c.takes_back-wanted.ensures
+          _ came finished many (search rules) back c.requires.filter c.takes_back-wanted.ensures.wanted
           more c.first_blocks-blocks.result c.first_blocks-blocks.ensures.none
           c.first_blocks-blocks.ensures.some,
     ))

@@ -1,7 +1,7 @@
 use Rattle.std.proofs.Common.{◌≤◌, List, arith, rules, subst, length}
 use Rattle.scan_rounds.proofs.ListPairs.{zip-length}
-use Rattle.scan_rounds.proofs.SharesCompose.{Stand, advanced_by, advanced_none}
-use Rattle.scan_rounds.proofs.SharesOfClients.{held_same}
+use Rattle.scan_rounds.proofs.share_laws.SharesCompose.{Stand, advanced_by, advanced_none}
+use Rattle.scan_rounds.proofs.share_laws.SharesOfClients.{held_same}
 use Rattle.scan_rounds.proofs.exchange.exchange_until_over.Goals as goal
 
 pub loop-places-init : goal.loop-places-init

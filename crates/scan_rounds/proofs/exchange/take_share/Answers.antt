@@ -1,8 +1,8 @@
 use Rattle.std.proofs.Common.{subst}
-use Rattle.scan_rounds.specs.BlockFilter.{filter_of_skipping}
+use Rattle.scan_jobs.specs.BlockFilter.{filter_of_skipping}
 use Rattle.scan_rounds.specs.Exchanges.{ShareTakenBack}
-use Rattle.scan_rounds.proofs.SharesExchange.{taken_unlisted}
-use Rattle.scan_rounds.proofs.SharesOfClients.{same_request}
+use Rattle.scan_rounds.proofs.share_laws.SharesExchange.{taken_unlisted}
+use Rattle.scan_rounds.proofs.share_laws.SharesOfClients.{same_request}
 use Rattle.scan_rounds.proofs.exchange.take_share.Goals as goal
 
 pub returns-else-wanted-clause-taken : goal.returns-else-wanted-clause-taken

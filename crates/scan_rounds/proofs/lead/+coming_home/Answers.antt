@@ -1,9 +1,9 @@
 use Rattle.std.proofs.Common.{arith}
-use Rattle.scan_rounds.specs.BlockFilter.{filter_of_skipping}
+use Rattle.scan_jobs.specs.BlockFilter.{filter_of_skipping}
 use Rattle.scan_rounds.specs.Shares.{AreTermsOf, ShareMayBeListed, ShareSpent}
 use Rattle.scan_rounds.proofs.ListPairs.{all_split, zip-length}
-use Rattle.scan_rounds.proofs.SharesOfClients.{first_share, later_shares, none_gathered}
-use Rattle.scan_rounds.proofs.SharesOfClients.{one_gathered}
+use Rattle.scan_rounds.proofs.share_laws.SharesOfClients.{first_share, later_shares, none_gathered}
+use Rattle.scan_rounds.proofs.share_laws.SharesOfClients.{one_gathered}
 use Rattle.scan_rounds.proofs.lead.+coming_home.Goals as goal
 
 pub returns-in_default : goal.returns-in_default

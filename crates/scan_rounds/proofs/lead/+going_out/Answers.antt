@@ -5,7 +5,7 @@ use Rattle.scan_rounds.specs.Shares.{AreTermsOf, ShareMayBeListed}
 use Rattle.scan_rounds.specs.declared.share.Share.{Share}
 use Rattle.scan_rounds.specs.declared.shared.SharedState.{SharedState}
 use Rattle.scan_rounds.proofs.ListPairs.{all_split, zip-length, zip-split}
-use Rattle.scan_rounds.proofs.SharesOfClients.{all_last, may_go_out, none_out, one_out}
+use Rattle.scan_rounds.proofs.share_laws.SharesOfClients.{all_last, may_go_out, none_out, one_out}
 use Rattle.scan_rounds.proofs.lead.+going_out.Goals as goal
 
 pub returns-in_default-clause-out : goal.returns-in_default-clause-out

@@ -7,8 +7,9 @@ use Rattle.scan_rounds.specs.RunLeads.{share_backend}
 use Rattle.scan_rounds.specs.Shares.{ShareSpent}
 use Rattle.scan_rounds.specs.declared.backend.Backend.{Backend}
 use Rattle.scan_rounds.proofs.ListPairs.{zip-length}
-use Rattle.scan_rounds.proofs.SharesGathered.{all_may_be_listed, are_backends, as_many, gathered}
-use Rattle.scan_rounds.proofs.SharesGathered.{only_those}
+use Rattle.scan_rounds.proofs.share_laws.SharesGathered.{all_may_be_listed, are_backends, as_many}
+use Rattle.scan_rounds.proofs.share_laws.SharesGathered.{gathered}
+use Rattle.scan_rounds.proofs.share_laws.SharesGathered.{only_those}
 use Rattle.scan_rounds.proofs.lead.lead_run.Goals as goal
 
 pub gather_backends-requires-clause-held : goal.gather_backends-requires-clause-held

@@ -2,7 +2,7 @@ use Rattle.std.proofs.Common.{rules, sym, subst}
 use Rattle.std.specs.List.{All}
 use Rattle.std.proofs.lemmas.List.Elements.{All-push}
 use Rattle.scan_rounds.specs.OpenedScan.{IsDeskFor}
-use Rattle.scan_rounds.proofs.PartsGiven.{desk_for}
+use Rattle.scan_rounds.proofs.assembly.PartsGiven.{desk_for}
 use Rattle.scan_rounds.proofs.memory.open_desks.Goals as goal
 
 pub loop-preserved : goal.loop-preserved

@@ -9,9 +9,9 @@ use Rattle.scan_rounds.specs.Rings.{IsRingOf}
 use Rattle.scan_rounds.specs.OpenedScan.{IsDeskFor}
 use Rattle.scan_settings.specs.Settings.{needs_of_method}
 use Rattle.scan_rounds.specs.declared.scan.Scan.{Scan}
-use Rattle.scan_rounds.proofs.AssembledScan.{opened_scan}
-use Rattle.scan_rounds.proofs.PartsGiven.{left_by_workers}
-use Rattle.scan_rounds.proofs.SeatsAndRings.{enough_seats}
+use Rattle.scan_rounds.proofs.assembly.AssembledScan.{opened_scan}
+use Rattle.scan_rounds.proofs.assembly.PartsGiven.{left_by_workers}
+use Rattle.scan_rounds.proofs.assembly.SeatsAndRings.{enough_seats}
 use Rattle.scan_rounds.proofs.open.assemble_scan.Goals as goal
 
 pub workers-workers-requires-clause-actors : goal.workers-workers-requires-clause-actors

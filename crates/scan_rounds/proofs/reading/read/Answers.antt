@@ -1,14 +1,15 @@
 use Rattle.std.proofs.Common.{sym, ap, ◌∙◌, subst, arith, length}
 use Rattle.aio_word.specs.Events.{lives_ended}
-use Rattle.read_stream.specs.StreamAnswers.{stream_entries}
+use Rattle.stream_answer.specs.StreamAnswers.{stream_entries}
 use Rattle.read_stream.specs.StreamViews.{StreamView}
 use Rattle.read_stream.specs.Desks.{IsFreeDesk}
 use Rattle.read_stream.specs.declared.desk.Desk.{Desk}
 use Rattle.read_stream.specs.declared.desk.Settings.{Settings}
 use Rattle.read_stream.specs.ActorProgress.{local_mark_count}
 use Rattle.read_stream.proofs.ActorAdvancedLaws.{advanced_then}
-use Rattle.scan_rounds.specs.BlockFilter.{filter_of_skipping}
-use Rattle.scan_rounds.proofs.Blocks.{given_moved, source_count, source_entries, source_few}
+use Rattle.scan_jobs.specs.BlockFilter.{filter_of_skipping}
+use Rattle.scan_rounds.proofs.WiderAnswers.{given_moved}
+use Rattle.scan_jobs.proofs.SourceEntries.{source_count, source_entries, source_few}
 use Rattle.scan_rounds.proofs.reading.read.Goals as goal
 
 pub open-stream-requires-clause-room : goal.open-stream-requires-clause-room

@@ -1,13 +1,15 @@
 use Rattle.std.proofs.Common.{rules, refl, ◌∙◌, arith}
 use Rattle.std.proofs.lemmas.List.{length-map}
-use Rattle.read_stream.specs.StreamAnswers.{stream_entry, synchronous_answer, stream_entries}
-use Rattle.read_stream.specs.StreamAnswers.{MayBeUnread}
+use Rattle.stream_answer.specs.StreamAnswers.{stream_entry, synchronous_answer, stream_entries}
+use Rattle.read_stream.specs.FailedReads.{MayBeUnread}
 use Rattle.read_stream.specs.StreamState.{stream_view}
 use Rattle.read_stream.specs.StreamViews.{StreamView, answer_of}
 use Rattle.read_stream.proofs.CallersView.{later_by_call, same_stream_later}
 use Rattle.read_stream.proofs.ContextAdvancedLaws.{call_nothing, call_then}
-use Rattle.scan_rounds.proofs.ConsumerProgress.{at_place, nearer, next_room, nothing_yet, taken_end}
-use Rattle.scan_rounds.proofs.ConsumerProgress.{given_by_call, taken_more}
+use Rattle.scan_rounds.proofs.StreamCalls.{at_place}
+use Rattle.scan_jobs.proofs.ConsumerProgress.{nearer, next_room, nothing_yet, taken_end}
+use Rattle.scan_rounds.proofs.StreamCalls.{given_by_call}
+use Rattle.scan_jobs.proofs.ConsumerProgress.{taken_more}
 use Rattle.scan_rounds.proofs.reading.take_all.Goals as goal
 
 pub loop-ending-init : goal.loop-ending-init

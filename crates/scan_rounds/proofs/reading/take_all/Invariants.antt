@@ -1,9 +1,9 @@
 use Rattle.std.proofs.Common.{◌≡◌, ◌-◌, length}
 use Rattle.aio_handle.specs.ContractViews.{IsActorOf}
-use Rattle.read_stream.specs.StreamAnswers.{stream_entries}
+use Rattle.stream_answer.specs.StreamAnswers.{stream_entries}
 use Rattle.read_stream.specs.StreamState.{IsOpenFor, stream_view}
 use Rattle.read_stream.specs.StreamViews.{CallAdvanced, IsSameStream}
-use Rattle.scan_rounds.proofs.ConsumerProgress.{SoFar}
+use Rattle.scan_jobs.proofs.ConsumerProgress.{SoFar}
 use Rattle.scan_rounds.proofs.reading.take_all.Given as goal
 
 abbrev pub invariant-loop-ending : goal.invariant-loop-ending

@@ -1,6 +1,6 @@
 use Rattle.std.proofs.Common.{arith, rules}
 use denote.Param.Send.{sendable}
-use Rattle.scan_rounds.proofs.JobsByPlace.{listed_beside, may_split, none_listed}
+use Rattle.scan_rounds.proofs.actor_jobs.JobsByPlace.{listed_beside, may_split, none_listed}
 use Rattle.scan_rounds.proofs.rounds.+round.Goals as goal
 
 pub list_beside-join_mut-requires-after_bounds : goal.list_beside-join_mut-requires-after_bounds

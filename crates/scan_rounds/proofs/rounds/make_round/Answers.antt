@@ -5,7 +5,7 @@ use Rattle.scan_rounds.specs.declared.disk_actor.DiskActor.{DiskActor}
 use Rattle.std.specs.Prelude.{slice_index_or}
 use Rattle.scan_rounds.proofs.ActorsAdvance.{actors_advanced, backends_many, options_kept}
 use Rattle.scan_rounds.proofs.ActorsAdvance.{room_falls, still_backends}
-use Rattle.scan_rounds.proofs.CountRaised.{raised_within}
+use Rattle.scan_rounds.proofs.totals.CountRaised.{raised_within}
 use Rattle.scan_rounds.proofs.LeastRoom.{fewer}
 use Rattle.scan_rounds.proofs.QueueClosed.{least_as, listed_as, many_as, sum_as}
 use Rattle.scan_rounds.proofs.rounds.make_round.Goals as goal

@@ -1,5 +1,5 @@
 use Rattle.scan_rounds.proofs.BackendsRun.{may_exchange_on}
-use Rattle.scan_rounds.proofs.SharesCompose.{advanced_by, advanced_once}
+use Rattle.scan_rounds.proofs.share_laws.SharesCompose.{advanced_by, advanced_once}
 use Rattle.scan_rounds.proofs.run_shares.begin_shares.Goals as goal
 
 pub returns-then-given-ne1-clause-may : goal.returns-then-given-ne1-clause-may

@@ -1,8 +1,8 @@
 use Rattle.std.proofs.Common.{◌≡◌, length, ap, arith, ◌∙◌}
 use Rattle.std.proofs.Math.ListN.{length-set}
-use Rattle.scan_rounds.specs.declared.job.Job.{Job}
-use Rattle.scan_rounds.proofs.JobsInSequence.{few_jobs}
-use Rattle.scan_rounds.proofs.JobsRefused.{none_unread_refused, one_taken, refused_follows}
+use Rattle.scan_jobs.specs.declared.job.Job.{Job}
+use Rattle.scan_rounds.proofs.actor_jobs.JobsInSequence.{few_jobs}
+use Rattle.scan_jobs.proofs.JobsRefused.{none_unread_refused, one_taken, refused_follows}
 use Rattle.scan_rounds.proofs.run_shares.refuse_jobs.Goals as goal
 
 pub loop-jobs-preserved : goal.loop-jobs-preserved

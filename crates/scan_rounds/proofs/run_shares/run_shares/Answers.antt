@@ -1,7 +1,7 @@
 use Rattle.std.proofs.Common.{◌*◌, length, refl, ap, ◌∙◌, arith}
 use Rattle.std.specs.Prelude.{slice_index_or}
 use Rattle.handoff.specs.HandoffViews.{HandoffView, ClientView, IsClientOf}
-use Rattle.scan_rounds.specs.BlockFilter.{filter_of_skipping}
+use Rattle.scan_jobs.specs.BlockFilter.{filter_of_skipping}
 use Rattle.scan_rounds.specs.declared.share.RunTerms.{RunTerms}
 use Rattle.scan_rounds.specs.declared.share.Share.{Share}
 use Rattle.scan_rounds.proofs.BackendsRun.{all_terms, all_went_out, gathered_ran}

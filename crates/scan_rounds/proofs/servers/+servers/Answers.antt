@@ -1,5 +1,5 @@
 use Rattle.std.proofs.Common.{rules}
-use Rattle.scan_rounds.specs.BlockFilter.{filter_of_skipping}
+use Rattle.scan_jobs.specs.BlockFilter.{filter_of_skipping}
 use Rattle.scan_rounds.specs.Shares.{AreTermsOf}
 use Rattle.scan_rounds.proofs.ListPairs.{all_split}
 use Rattle.scan_rounds.proofs.servers.+servers.Goals as goal

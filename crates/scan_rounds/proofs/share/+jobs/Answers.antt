@@ -1,5 +1,5 @@
 use Rattle.std.proofs.Common.{sym, arith}
-use Rattle.scan_rounds.proofs.JobsInSequence.{may_later, none_done, some_then}
+use Rattle.scan_rounds.proofs.actor_jobs.JobsInSequence.{may_later, none_done, some_then}
 use Rattle.scan_rounds.proofs.share.+jobs.Goals as goal
 
 pub returns-then-is_empty : goal.returns-then-is_empty
@@ -16,8 +16,8 @@ do_jobs-requires-clause-may g t c κs within =
 
 pub returns : goal.returns
 returns g t c = record {
-  done = rw (c.split_at_mut-first.ensures.value, sym c.neighbours-many.ensures.by_map)
+  done = rw (c.split_at_mut-first.ensures.value, sym c.neighbouring_jobs-many.ensures.by_map)
       (some_then _ _ _ _ c.args.backend.now c.list.new.self
       c.split_at_mut-first.result.0.now c.list.new.jobs c.list.ensures.listed _ _ _
-      (rw c.neighbours-many.ensures.by_map c.do_jobs.ensures.done));
+      (rw c.neighbouring_jobs-many.ensures.by_map c.do_jobs.ensures.done));
 }

@@ -1,7 +1,7 @@
 use Rattle.std.proofs.Common.{◌≡◌, refl, ◌∙◌, ◌++◌, ℕ, List, sym, ap, subst, arith, length, length-append, take}
 use Rattle.std.proofs.Math.Seq.{take-append_seam}
 use Rattle.std.proofs.lemmas.List.{with_items_is}
-use Rattle.scan_rounds.specs.declared.job.Job.{Job}
+use Rattle.scan_jobs.specs.declared.job.Job.{Job}
 use Rattle.scan_rounds.proofs.ListPairs.{zip-at, zip-length}
 use Rattle.scan_rounds.proofs.share.list_share.Goals as goal
 

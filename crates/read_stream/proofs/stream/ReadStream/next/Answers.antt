@@ -1,4 +1,4 @@
-use Rattle.std.proofs.Common.{◌≡◌, ℕ, true, Bool, rules, refl, sym, ap, subst, ◌∙◌}
+use Rattle.std.proofs.Common.{◌≡◌, ℕ, true, rules, refl, sym, ap, subst, ◌∙◌}
 use Rattle.std.specs.Prelude.{IfSome}
 use Rattle.page_check.specs.declared.rules.PageRules.{PageRules}
 use Rattle.page_check.specs.PageBytes.{IsPage}
@@ -7,7 +7,7 @@ use Rattle.aio_handle.specs.ContractViews.{ActorView}
 use Rattle.read_stream.specs.declared.stream.ReadStream.{ReadStream}
 use Rattle.read_stream.specs.declared.at_hand.AtHand.{AtHand}
 use Rattle.read_stream.specs.AtHand.{ending_at_hand}
-use Rattle.read_stream.specs.StreamAnswers.{IfZeroed, synchronous_answer}
+use Rattle.stream_answer.specs.StreamAnswers.{IfZeroed, synchronous_answer}
 use Rattle.read_stream.specs.StreamState.{StreamAnswered, answer_at_hand, stream_view}
 use Rattle.read_stream.specs.StreamViews.{StreamView, IsStreamAnswer, stream_after}
 use Rattle.read_stream.proofs.CallersView.{answer_seen, as_left, ending_again}

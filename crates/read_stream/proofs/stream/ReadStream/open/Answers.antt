@@ -8,7 +8,7 @@ use Rattle.read_stream.specs.declared.scope.Scope.{Scope}
 use Rattle.read_stream.specs.declared.queue.QueuedBlock.{QueuedBlock}
 use Rattle.read_stream.specs.declared.reads.EndedRead.{EndedRead}
 use Rattle.read_stream.specs.QueuedBlocks.{IsValidWant}
-use Rattle.read_stream.specs.StreamAnswers.{stream_entries}
+use Rattle.stream_answer.specs.StreamAnswers.{stream_entries}
 use Rattle.read_stream.specs.StreamIos.{AllRecordsFree, ReadsForRuns}
 use Rattle.read_stream.specs.StreamState.{IsPosition}
 use Rattle.read_stream.proofs.ReadsMatchRuns.{reads-none}

@@ -1,4 +1,4 @@
-use Rattle.scan_rounds.proofs.ActorsListJobs.{may_list}
+use Rattle.scan_rounds.proofs.actor_jobs.ActorsListJobs.{may_list}
 use Rattle.scan_rounds.proofs.backend.Backend.list.Goals as goal
 
 pub list-requires-clause-may : goal.list-requires-clause-may

@@ -1,7 +1,7 @@
 use Rattle.std.proofs.Common.{sym, ap, ◌∙◌, refl}
 use Rattle.heap_tuple.specs.Listing.{text_with}
-use Rattle.scan_rounds.proofs.ActorsListJobs.{by_text}
-use Rattle.scan_rounds.proofs.JobsListed.{new_jobs_have_none}
+use Rattle.scan_rounds.proofs.actor_jobs.ActorsListJobs.{by_text}
+use Rattle.scan_jobs.proofs.JobsListed.{new_jobs_have_none}
 use Rattle.scan_rounds.proofs.disk_actor.DiskActor.list.Goals as goal
 
 pub read-ending-requires-clause-held : goal.read-ending-requires-clause-held

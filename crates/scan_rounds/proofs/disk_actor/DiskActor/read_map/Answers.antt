@@ -1,5 +1,5 @@
 use Rattle.std.proofs.Common.{sym, ap, ◌∙◌}
-use Rattle.scan_rounds.proofs.ReadMaps.{no_pages}
+use Rattle.scan_jobs.proofs.PagesOfMaps.{no_pages}
 use Rattle.scan_rounds.proofs.disk_actor.DiskActor.read_map.Goals as goal
 
 pub read_one_by_one-ending-requires-clause-held : goal.read_one_by_one-ending-requires-clause-held

@@ -1,7 +1,7 @@
 use Rattle.std.proofs.Common.{arith, rules, sym, subst}
 use Rattle.scan_rounds.specs.OpenedScan.{GivesBackends}
-use Rattle.scan_rounds.proofs.PartsGiven.{backends_more, left_by_backends, left_by_workers}
-use Rattle.scan_rounds.proofs.PartsGiven.{no_backends}
+use Rattle.scan_rounds.proofs.assembly.PartsGiven.{backends_more, left_by_backends, left_by_workers}
+use Rattle.scan_rounds.proofs.assembly.PartsGiven.{no_backends}
 use Rattle.scan_rounds.proofs.open.Parts.backends.Goals as goal
 
 pub loop-init : goal.loop-init

@@ -1,6 +1,6 @@
 use Rattle.std.proofs.Common.{arith, rules, sym, subst}
 use Rattle.scan_rounds.specs.OpenedScan.{GivesWorkers}
-use Rattle.scan_rounds.proofs.PartsGiven.{left_by_workers, no_workers, workers_more}
+use Rattle.scan_rounds.proofs.assembly.PartsGiven.{left_by_workers, no_workers, workers_more}
 use Rattle.scan_rounds.proofs.open.Parts.workers.Goals as goal
 
 pub loop-init : goal.loop-init

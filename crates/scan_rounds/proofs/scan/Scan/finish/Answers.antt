@@ -3,8 +3,8 @@ use Rattle.std.specs.List.{All}
 use Rattle.aio_handle.specs.EndStates.{NoneHasOwnerTokens, AreTotals}
 use Rattle.aio_handle.specs.ContractViews.{IsActorOf, actor_known}
 use Rattle.scan_rounds.specs.Scans.{actor_of, disk_of}
-use Rattle.scan_rounds.proofs.TotalsMatchDisks.{push_all_parts, backends_held, workers_held}
-use Rattle.scan_rounds.proofs.TotalsMatchDisks.{of_table, are_quiet, finished}
+use Rattle.scan_rounds.proofs.totals.TotalsMatchDisks.{push_all_parts, backends_held, workers_held}
+use Rattle.scan_rounds.proofs.totals.TotalsMatchDisks.{of_table, are_quiet, finished}
 use Rattle.scan_rounds.proofs.scan.Scan.finish.Goals as goal
 
 pub push_all_parts-requires-clause-disk_actors : goal.push_all_parts-requires-clause-disk_actors

@@ -5,7 +5,7 @@ use Rattle.scan_rounds.specs.Progress.{BackendsAreReady}
 use Rattle.scan_rounds.specs.Rounds.{FirstBackendReadMap}
 use Rattle.scan_rounds.proofs.ActorsAdvance.{actors_advanced, backends_many, options_kept}
 use Rattle.scan_rounds.proofs.ActorsAdvance.{room_falls, still_backends}
-use Rattle.scan_rounds.proofs.CountRaised.{raised_within}
+use Rattle.scan_rounds.proofs.totals.CountRaised.{raised_within}
 use Rattle.scan_rounds.proofs.LeastRoom.{fewer}
 use Rattle.scan_rounds.proofs.ScanAfterMap.{backends_read, map_read, results_bound, results_read}
 use Rattle.scan_rounds.proofs.ScanAfterMap.{workers_stay}

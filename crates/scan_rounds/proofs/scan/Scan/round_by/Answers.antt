@@ -3,7 +3,7 @@ use Rattle.std.proofs.lemmas.List.{with_items_is}
 use Rattle.aio_handle.specs.ContractViews.{TableView}
 use Rattle.scan_rounds.specs.Rounds.{AllHaveOptions, AllJobsListed, results_taken_count}
 use Rattle.scan_rounds.specs.Scans.{IsOpenedAgain, scan_options}
-use Rattle.scan_rounds.specs.BlockFilter.{filter_of_skipping}
+use Rattle.scan_jobs.specs.BlockFilter.{filter_of_skipping}
 use Rattle.scan_rounds.proofs.ActorsAdvance.{many_actors}
 use Rattle.scan_rounds.proofs.ScanAfterRounds.{waiting_in, serving_in, scan_again}
 use Rattle.scan_rounds.proofs.scan.Scan.round_by.Goals as goal

@@ -1,0 +1,2 @@
+pub mod ListerState
+pub mod ListerLaws

@@ -1,0 +1,46 @@
+-- What a stream answers, in the words of synchronous reads.
+use Rattle.std.specs.Prelude.{◌≡◌, ℕ, Bool, true, false, List, map, ⊤}
+use Rattle.page_check.specs.SynchronousAnswer.{Entry}
+use Rattle.page_check.specs.SynchronousAnswer.{End as SaidEnd, Invalid as SaidInvalid}
+use Rattle.page_check.specs.SynchronousAnswer.{PastEnd as SaidPastEnd, Unread as SaidUnread}
+use Rattle.page_check.specs.IsAnswer.{Next as Said, Page as SaidPage, Stop as SaidStop}
+use Rattle.stream_answer.specs.declared.answer.Next.{Next}
+use Rattle.stream_answer.specs.declared.answer.Next.TheVariants as next
+
+-- a block of the relation, with the caller's data
+abbrev pub stream_entry : {P : Type 0} → ℕ → ℕ × P → Entry P
+stream_entry relation x = record { relation = relation; block = x.0; per_buffer_data = x.1 }
+
+-- the blocks of the relation that a source gives
+abbrev pub stream_entries : {P : Type 0} → ℕ → List (ℕ × P) → List (Entry P)
+stream_entries relation list = map (stream_entry relation) list
+
+module _ {P : Type 0} where
+  -- the page that was given for the block, and whether it was zeroed
+  abbrev pub page_answer : ℕ → ℕ → P → List ℕ → Bool → Said P
+  page_answer relation block info page zeroed = SaidPage (record {
+    entry = stream_entry relation (block, info);
+    page = page;
+    zeroed = zeroed;
+  })
+
+  -- the answer, in the words of synchronous reads
+  abbrev pub synchronous_answer : ℕ → Next P → Said P
+  synchronous_answer relation (next.Page page block info) = page_answer relation block info.now
+      page.now false
+  synchronous_answer relation (next.Zeroed page block info) = page_answer relation block info.now
+      page.now true
+  synchronous_answer relation next.End = SaidStop SaidEnd
+  synchronous_answer relation (next.Invalid block) = SaidStop (SaidInvalid block)
+  synchronous_answer relation (next.Unread block) = SaidStop (SaidUnread block)
+  synchronous_answer relation (next.PastEnd block) = SaidStop (SaidPastEnd block)
+
+  -- how many pages the answer gives
+  abbrev pub pages_given : Said P → ℕ
+  pages_given (SaidPage given) = 1
+  pages_given (SaidStop end) = 0
+
+  -- this holds where the answer gives a page that was zeroed
+  abbrev pub IfZeroed : Said P → Type 0 → Type 0
+  IfZeroed (SaidPage given) holds = given.zeroed ≡ true → holds
+  IfZeroed (SaidStop end) holds = ⊤

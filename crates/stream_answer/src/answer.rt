@@ -1,0 +1,20 @@
+//! What a stream answers.
+use page_check::Page;
+
+/// What a read stream gives at each call. The page and the caller's data are lent until the next
+/// call.
+#[derive(Clone, Copy)]
+pub enum Next<'s, P> {
+    /// The page of the block, and the data that the source gave with it.
+    Page(&'s Page, u32, &'s P),
+    /// The same of a page that is not valid and was set to zeros.
+    Zeroed(&'s Page, u32, &'s P),
+    /// The source has no further block.
+    End,
+    /// The page of this block is not valid.
+    Invalid(u32),
+    /// The block could not be read.
+    Unread(u32),
+    /// The relation has no such block.
+    PastEnd(u32),
+}
