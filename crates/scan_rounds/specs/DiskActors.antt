@@ -1,6 +1,6 @@
 -- An actor with its disk, between its calls, and what a call makes of it.
-use Rattle.std.specs.Prelude.{◌≡◌, ℕ, ◌+◌, ◌^◌, ◌<◌, ◌≤◌, ◌++◌, Bool, List, Option, Some, None}
-use Rattle.std.specs.Prelude.{IfSome, is_some, length, true, ◌*◌, slice_index_or}
+use Rattle.std.specs.Prelude.{◌≡◌, ℕ, ◌+◌, ◌^◌, ◌<◌, ◌≤◌, ◌++◌, Bool, List, Option, Some}
+use Rattle.std.specs.Prelude.{IfSome, is_some, length, true, ◌*◌}
 use Rattle.std.specs.List.{All, AllZip}
 use Rattle.page_check.specs.declared.world.World.{Ghosts as WorldGhosts}
 use Rattle.page_check.specs.SynchronousAnswer.{Entry}
@@ -19,9 +19,10 @@ use Rattle.method_worker.specs.QueueViews.{QueueView, IsSeatOf}
 use Rattle.vis_map.specs.Bits.{Map}
 use Rattle.aio_disk.specs.declared.disk.Disk.{Ghosts as DiskGhosts}
 use Rattle.scan_settings.specs.ListOptions.{ListOptions, list_options}
-use Rattle.scan_jobs.specs.Jobs.{IsNewJob, JobIsListed, answered_ending, AreWholeButLast}
-use Rattle.scan_jobs.specs.Jobs.{count_unskipped, entries_of_jobs, unread_job_count}
-use Rattle.scan_jobs.specs.BlockFilter.{BlockFilter, unskipped_range, filter_of_skipping}
+use Rattle.scan_jobs.specs.Jobs.{IsNewJob, JobIsListed, answered_ending, count_unskipped}
+use Rattle.scan_jobs.specs.Jobs.{unread_job_count}
+use Rattle.scan_jobs.specs.StreamBlocks.{IsStreamOfJobs, entries_of_blocks, map_blocks}
+use Rattle.scan_jobs.specs.BlockFilter.{BlockFilter}
 use Rattle.scan_jobs.specs.ConsumedPages.{MapHasPages, PagesPredicate, PagesConsumed}
 use Rattle.scan_jobs.specs.declared.job.Ending.{Ending}
 use Rattle.scan_jobs.specs.declared.source.Blocks.{Blocks}
