@@ -3,9 +3,7 @@
 ghost use Rattle.std.specs.Prelude.{◌≡◌, ◌<◌, ◌^◌};
 ghost use Rattle.aio_word.specs.Events.{word_after, kind_of_step, make_word};
 
-use aio_word::{Class, Kind, State, Step, Word};
-
-const LAST_GENERATION: u64 = (1 << 58) - 1;
+use aio_word::{Class, Kind, LAST_GENERATION, State, Step, Word};
 
 /// The word after the step, where the state before has the step.
 pub(crate) fn after(word: &Word, step: Step) -> Option<Word>

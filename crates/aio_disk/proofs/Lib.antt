@@ -1,5 +1,4 @@
 pub mod Logs
-pub mod ShortAnswers
 pub mod SourceCalls
 pub mod FileNames
 pub mod GivenPages

@@ -4,8 +4,5 @@ pub mod Shelf
 pub mod Sink
 pub mod ReadLog
 pub mod Steady
-pub mod Script
-pub mod Scripted
-pub mod MemSink
 pub mod Source
 pub mod Segments

@@ -7,23 +7,20 @@
 //! its faults, and a fault comes only where its count rose, so that a caller can show where a
 //! fault of its own came from.
 //!
-//! [`SteadyShelf`], [`MemShelf`] and [`MemSink`] are in memory and tell all. Their own calls have
-//! exact clauses: which call fails, how many pages a read gives, what the log of reads then
-//! holds. [`FileShelf`] and [`StdSink`] are the real files and streams, and tell nothing: what
-//! they give is the system's, and tests alone show it. How the bytes of a file become pages, and
-//! where its faults go, is proved over any [`ByteSource`](source::ByteSource) that tells its bytes.
+//! [`SteadyShelf`] is in memory, never fails and tells all. Its own calls have exact clauses: how
+//! many pages a read gives, what the log of reads then holds. [`FileShelf`] and [`StdSink`] are the
+//! real files and streams, and tell nothing: what they give is the system's, and tests alone show
+//! it. How the bytes of a file become pages, and where its faults go, is proved over any
+//! [`ByteSource`](source::ByteSource) that tells its bytes.
 #![tactic(auto)]
 
 mod blocks;
 mod disk;
 mod fault;
 mod file;
+mod file_names;
 mod file_relation;
-mod mem_disk;
-mod mem_shelf;
-mod mem_sink;
 mod read_log;
-mod script;
 mod segments;
 mod shared_bytes;
 mod shelf;
@@ -36,11 +33,9 @@ mod steady;
 pub use disk::Disk;
 pub use fault::{DeviceFault, OpenFault, WriteFault};
 pub use file::{FileDisk, FileShelf};
-pub use mem_disk::MemDisk;
-pub use mem_shelf::{MemShelf, have_distinct_names};
-pub use mem_sink::MemSink;
+pub use file_names::have_distinct_names;
 pub use read_log::ReadEntry;
-pub use script::Script;
+pub use segments::SEGMENT_SIZE;
 pub use shelf::Shelf;
 pub use sink::Sink;
 pub use std_sink::StdSink;

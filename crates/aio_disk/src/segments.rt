@@ -9,7 +9,7 @@ use std::marker::Model;
 
 /// The greatest segment size, and that of PostgreSQL as it is built by default: 1 GB in blocks
 /// (`RELSEG_SIZE` of `pg_config.h`).
-pub(crate) const SEGMENT_SIZE: u32 = 131072;
+pub const SEGMENT_SIZE: u32 = 131072;
 
 /// How many segments a relation has at most.
 pub(crate) const MOST_SEGMENTS: u32 = 17;

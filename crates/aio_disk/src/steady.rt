@@ -84,21 +84,21 @@ impl SteadyDisk {
     }
 
     /// Which disk of its shelf it is.
-    pub(crate) fn number(&self) -> u32
+    pub fn number(&self) -> u32
         ensures { result ≡ self.now.number }
     {
         self.number
     }
 
     /// Which read the next one is, counted from 1.
-    pub(crate) fn next_read(&self) -> u64
+    pub fn next_read(&self) -> u64
         ensures { result ≡ count_plus 1 self.now.reads }
     {
         self.read_count.saturating_add(1)
     }
 
     /// How many blocks the relation has.
-    pub(crate) fn length(&self, relation: u32) -> u32
+    pub fn length(&self, relation: u32) -> u32
         requires { relation < length self.now.told.relations }
         ensures { result ≡ relation_block_count self.now.told relation }
     {
@@ -108,13 +108,7 @@ impl SteadyDisk {
     }
 
     /// Reads pages, and no more than `most`, and says how many.
-    pub(crate) fn read_up_to(
-        &mut self,
-        relation: u32,
-        first: u32,
-        most: u32,
-        pages: &mut [Page],
-    ) -> u32
+    pub fn read_up_to(&mut self, relation: u32, first: u32, most: u32, pages: &mut [Page]) -> u32
         requires relation { relation < length self.old.told.relations }
         requires few { length pages.old ≤ 128 }
         ensures count { result ≡ min (relation_block_count self.old.told relation - first)
@@ -131,7 +125,7 @@ impl SteadyDisk {
     }
 
     /// Counts a read, and adds it to the log.
-    pub(crate) fn note(&mut self, relation: u32, first: u32, asked: u32, answered: Option<u32>)
+    pub fn note(&mut self, relation: u32, first: u32, asked: u32, answered: Option<u32>)
         ensures { self.new ≡ with_read self.old relation first asked answered }
     {
         self.read_count = self.read_count.saturating_add(1);

@@ -16,8 +16,7 @@ use Rattle.aio_word.specs.Events.{wait_ref}
 use Rattle.aio_word.proofs.PackIsInjective.{packed_word-injective}
 use Rattle.aio_word.specs.Words.{last_generation}
 use Rattle.aio_word.specs.declared.State.{State}
-use Rattle.aio_word.specs.declared.State.TheVariants.{CompletedShared}
-use Rattle.aio_word.specs.Words.{IsDone, IsLawful, ClaimFits, packed_word, state_place, word_place}
+use Rattle.aio_word.specs.Words.{IsDone, packed_word, state_place, word_place}
 use Rattle.aio_word.specs.Words.{word_rank}
 use Rattle.aio_word.specs.Stands.{IsIn, seen_rank}
 use Rattle.aio_word.specs.Tokens.{IsInFlight}
@@ -28,7 +27,6 @@ use Rattle.aio_handle.specs.LifeWords.{completed_word, taken_word}
 use Rattle.aio_handle.specs.Seats.{seat_known}
 use Rattle.aio_handle.specs.Steps.{StepLoadsWord}
 use Rattle.aio_handle.proofs.CallSteps.{looks-saw}
-use Rattle.aio_handle.proofs.StateAtStep.{word-is}
 use Rattle.aio_handle.proofs.TokensAfterEvent.{begun-of}
 
 pub not-both : (b : Bool) → b ≡ true → b ≡ false → ⊥
@@ -77,17 +75,9 @@ pub seen-completed : (h : ℕ) (w : Word) (p q : Known) (g : ℕ) → WordLoaded
     → 8 * g + 6 ≤ seen_rank q h
 seen-completed h w p q g m d = let a = m.now in let b = rank-completed w g d in omega arith
 
-pub is-completed : (w : Word) (g : ℕ) → IsLawful w → IsCompleted w g → w ≡ completed_word w.class g
-is-completed w g l (s, e) = word-is w CompletedShared false w.class g s
-    (subst (λ (z : State). ClaimFits z w.claimed) s l.claim) refl e
-
 pub is-true : (b : Bool) → not b ≡ false → b ≡ true
 is-true true e = refl
 is-true false e = absurd (cc)
-
-pub packed_word-completed : (w : Word) (g : ℕ) → IsLawful w → IsCompleted w g
-    → packed_word w ≡ packed_word (completed_word w.class g)
-packed_word-completed w g l d = ap packed_word (is-completed w g l d)
 
 -- as the load found it, and no step between changed the class: the step found the same generation
 pub note-looked : (h : ℕ) (w : Word) (p q : Known) (x : WaitRef × List ℕ) → WordLoaded h w p q

@@ -25,7 +25,7 @@ use Rattle.aio_handle.specs.Steps.{StepLoadsWord, NumberLoaded, Claims, Executes
 use Rattle.aio_handle.proofs.StateAtStep.{StepFinds, step-finds, refined, ruled-here}
 use Rattle.aio_handle.proofs.StateAtStep.{known-matches-word, actor-here}
 use Rattle.aio_handle.proofs.WordFromMarks.{is-claimed_word, has-claimed, is-executed_word}
-use Rattle.aio_handle.proofs.InvariantAfterStep.{look-keeps, word-loaded}
+use Rattle.aio_handle.proofs.StepOnHandle.InvariantAfterStep.{look-keeps, word-loaded}
 use Rattle.aio_handle.proofs.EventSteps.{EventFits, event_made, slot-stays, slot-goes-out}
 use Rattle.aio_handle.proofs.EventSteps.{slot-goes-home}
 

@@ -1,13 +1,11 @@
--- Several tokens of one actor: all are kept, one more comes, and one goes.
+-- Several tokens of one actor: all are kept, one more comes, and the one that goes is another.
 use Rattle.std.proofs.Common.{◌≢◌, List, [], ◌∷◌, ◌++◌, refl, sym, ap, ◌∙◌, subst, inl, inr}
 use Rattle.std.proofs.Common.{⊎_elim}
 use Rattle.aio_word.specs.declared.Known.{Known}
 use Rattle.aio_word.specs.declared.WaitRef.{WaitRef}
 use Rattle.aio_word.specs.Stands.{IsIn}
-use Rattle.aio_word.proofs.ReplacedElement.{in-append, in-left, in-right}
-use Rattle.aio_handle.specs.TokenLists.{Place, TokenIsAt, TokenUnchangedAt, AreDistinctTokens}
-use Rattle.aio_handle.specs.TokenLists.{as_defined, as_staged}
-use Rattle.aio_handle.specs.TokenLists.{as_in_flight, as_local, as_claimed}
+use Rattle.aio_word.proofs.ReplacedElement.{in-append, in-right}
+use Rattle.aio_handle.specs.TokenLists.{AreDistinctTokens}
 
 module _ {A : Type 0} (reference_of : A → WaitRef) where
   pub distinct-moved : (P Q : Known → WaitRef → Type 0) (p q : Known) (ts : List A)
@@ -46,29 +44,3 @@ module _ {A : Type 0} (reference_of : A → WaitRef) where
   distinct-apart P p (x ∷ front) back t h u i = ⊎_elim
       (λ e. λ same. h.1 t (in-right t front (t ∷ back) (inl refl)) (sym same ∙ sym (ap reference_of e)))
       (λ j. distinct-apart P p front back t h.2 u j) i
-
-  pub distinct-without : (P : Known → WaitRef → Type 0) (p : Known) (front back : List A) (t : A)
-      → AreDistinctTokens reference_of P p (front ++ t ∷ back) → AreDistinctTokens reference_of P p (front ++ back)
-  distinct-without P p [] back t h = h.2
-  distinct-without P p (x ∷ front) back t h = (
-    h.0,
-    (λ u i. h.1 u (⊎_elim (λ j. in-left u front (t ∷ back) j)
-        (λ j. in-right u front (t ∷ back) (inr j)) (in-append u front back i))),
-    distinct-without P p front back t h.2,
-  )
-
-stays : (place : Place) (t : WaitRef) (p q : Known) → TokenUnchangedAt place t p q
-    → TokenIsAt place p t
-    → TokenIsAt place q t
-stays as_defined t p q k = k.defined
-stays as_staged t p q k = k.staged
-stays as_in_flight t p q k = k.in_flight
-stays as_local t p q k = k.local
-stays as_claimed t p q k = k.claimed
-
-pub distinct-unchanged : {A : Type 0} (reference_of : A → WaitRef) (place : Place) (p q : Known) (ts : List A)
-    → ((t : A) → IsIn t ts → TokenUnchangedAt place (reference_of t) p q)
-    → AreDistinctTokens reference_of (TokenIsAt place) p ts
-    → AreDistinctTokens reference_of (TokenIsAt place) q ts
-distinct-unchanged reference_of place p q ts k = distinct-moved reference_of (TokenIsAt place) (TokenIsAt place) p q ts
-    (λ t i. stays place (reference_of t) p q (k t i))

@@ -28,8 +28,9 @@ use Rattle.aio_handle.proofs.SeatLists.{entry-at, index-below}
 use Rattle.aio_handle.proofs.StateAtStep.{StepFinds, refined, ruled-here, known-matches-word}
 use Rattle.aio_handle.proofs.StateAtStep.{actor-here, here-in}
 use Rattle.aio_handle.proofs.WordFromMarks.{none-some}
-use Rattle.aio_handle.proofs.NoteEffects.{NoteEffect, note-effect, aim_after, AimFits, OutFits}
-use Rattle.aio_handle.proofs.StepKeepsInvariant.{invariant-kept, event-made}
+use Rattle.aio_handle.proofs.StepOnHandle.NoteEffects.{NoteEffect, note-effect, aim_after, AimFits}
+use Rattle.aio_handle.proofs.StepOnHandle.NoteEffects.{OutFits}
+use Rattle.aio_handle.proofs.StepOnHandle.StepKeepsInvariant.{invariant-kept, event-made}
 use Rattle.aio_handle.proofs.SlotOutNotHome.{slot-out-with-nobody}
 
 -- the event is that of the row of the word that is found

@@ -1,13 +1,9 @@
 pub mod SeatLists
 pub mod StateAtStep
+pub mod StepOnHandle
 pub mod LivesCounted
-pub mod InvariantAfterStep
-pub mod EventEffects
-pub mod MomentsAroundStep
-pub mod StepKeepsInvariant
 pub mod SlotOutNotHome
 pub mod WordFromMarks
-pub mod NoteEffects
 pub mod EventSteps
 pub mod OwnerSteps
 pub mod ClaimerSteps

@@ -27,8 +27,7 @@ use Rattle.aio_handle.specs.TableInvariant.{SlotInState, TableInvariant}
 use Rattle.aio_handle.specs.Seats.{IsOutBetween, SlotIsOut, out_spans}
 use Rattle.aio_handle.proofs.StateAtStep.{StepFinds, step-finds, stood-here, ruled-here}
 use Rattle.aio_handle.proofs.StateAtStep.{known-matches-word, actor-here}
-use Rattle.std.proofs.Common.{length, set, ap}
-use Rattle.atomic_table.specs.Table.{Me, rest, put_back}
+use Rattle.std.proofs.Common.{length, set}
 use Rattle.atomic_table.proofs.Lists.{set_here}
 use Rattle.aio_handle.proofs.SeatLists.{index-below}
 
@@ -186,28 +185,6 @@ slot-at-home-not-out label aim_in Fits c s r id h q x at range home away =
 
 module _ {R : Type 0} (label : R → Label) (aim_in : R → List ℕ) (Fits : R → Type 0)
     (c : Config) where
-  pub slot-at-home : (s : State (Option R) (List Known)) (id h n new : ℕ) (p q : Known)
-      (me : Me (Option R) (List Known)) (x : Option R) → get_elem? s.views id ≡ some (p ∷ [])
-      → n ≡ new → me.1 ≡ (h, x) ∷ rest me.1
-      → TableInvariant label aim_in Fits c
-      record {
-        words = set s.words h n;
-        homes = set s.homes h (some x);
-        views =
-            set s.views id (q ∷ []);
-      }
-      → TableInvariant label aim_in Fits c
-      record {
-        words = set s.words h new;
-        homes = put_back s.homes me.1;
-        views =
-            set s.views id (q ∷ []);
-      }
-  slot-at-home s id h n new p q me x at same first keep =
-      subst (λ (z : ℕ × List (maybe.Option (Option R))). TableInvariant label aim_in Fits c
-      record { words = set s.words h z.0; homes = z.1; views = set s.views id (q ∷ []) })
-      (λ k. (same k, ap (put_back s.homes) (sym first) k)) keep
-
   pub slot-out-with-nobody : (s : State (Option R) (List Known)) (id h n : ℕ) (p q : Known)
       (x : Option R)
       → get_elem? s.views id ≡ some (p ∷ []) → h < handle_count c → h < length s.homes

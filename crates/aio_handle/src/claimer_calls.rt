@@ -18,12 +18,11 @@ ghost use Rattle.aio_handle.specs.ClaimAttempt.{ClaimWon, ClaimLost, OwnerKnowsC
 use crate::actor::Actor;
 use crate::execute::Execute;
 use crate::front::move_slot_to_front;
-use crate::own_handles::LAST_GENERATION;
 use crate::record::Record;
 use crate::steps::{ClaimStep, ExecuteStep, LookStep, ShareStep};
 use crate::table::{Table, number_of};
 use crate::tokens::Claimed;
-use aio_word::{Class, State, WaitRef};
+use aio_word::{Class, LAST_GENERATION, State, WaitRef};
 use page_check::World;
 use std::marker::PhantomData;
 use std::sync::Wait;

@@ -1,7 +1,7 @@
 //! Laws on the lists of a table's actors, each the contract of a function that does nothing: what
 //! was executed, that a claim has one winner, what an actor that holds several tokens keeps of those
-//! that it does not use, how what it does composes, and that a backend with room is served.
-ghost use Rattle.std.specs.Prelude.{◌≡◌, ◌≢◌, ℕ, ◌+◌, ◌<◌, ◌≤◌, List, [], ◌∷◌, ◌++◌, sum_by};
+//! that it does not use, and that a backend with room is served.
+ghost use Rattle.std.specs.Prelude.{◌≡◌, ◌≢◌, ℕ, ◌+◌, ◌<◌, ◌≤◌, List, sum_by};
 ghost use Rattle.aio_word.specs.declared.Config.{Config};
 ghost use Rattle.aio_word.specs.declared.Class.{Class};
 ghost use Rattle.aio_word.specs.declared.Kind.{Kind};
@@ -14,16 +14,13 @@ ghost use Rattle.aio_word.specs.declared.WaitRef.{WaitRef};
 ghost use Rattle.aio_word.specs.declared.Word.{Word};
 ghost use Rattle.aio_word.specs.Events.{make_mark, wait_ref, lives_ended, mark_count, owner};
 ghost use Rattle.aio_word.specs.Stands.{IsIn, Stands, seen_rank};
-ghost use Rattle.aio_word.specs.Tokens.{AppendsMarks, MarksOnceAndSeen, IsClaimed, io_mark_count};
+ghost use Rattle.aio_word.specs.Tokens.{MarksOnceAndSeen, IsClaimed, io_mark_count};
 ghost use Rattle.aio_word.specs.Tokens.{claimed_mark_count};
 ghost use Rattle.aio_word.specs.Tokens.{failed_mark_count, failed_result_count};
-ghost use Rattle.aio_word.specs.Words.{last_generation};
 ghost use Rattle.aio_handle.specs.declared.actor.AcquireRefusal.{AcquireRefusal};
 ghost use Rattle.aio_handle.specs.EndStates.{EndState, IsExecutedIn, HasNoOwnerTokens};
 ghost use Rattle.aio_handle.specs.Execution.{ExecutesAll};
 ghost use Rattle.aio_handle.specs.FreeHandles.{IsRoom, IsCause};
-ghost use Rattle.aio_handle.specs.TokenLists.{Place, TokenIsAt, TokenUnchangedAt};
-ghost use Rattle.aio_handle.specs.TokenLists.{AreDistinctTokens};
 ghost use Rattle.aio_handle.specs.UnchangedTokens.{TokenUnchanged, ClaimUnchanged, UsesToken};
 ghost use Rattle.aio_handle.specs.LifeWords.{handed_out_word, defined_word, unclaimed_word};
 ghost use Rattle.aio_handle.specs.LifeWords.{claimed_word};
@@ -132,60 +129,4 @@ pub fn a_backend_at_rest_with_room_is_served()
         → p.number < c.backends → IsRoom c p room → ended < room → q.number ≡ p.number
         → ((h : ℕ) → lives_ended h q.marks ≤ lives_ended h p.marks + ended) → HasNoOwnerTokens q
         → IsCause c q why → ⊥ }
-{}
-
-/// The room of an actor is one number, and at most the last generation.
-pub fn the_room_is_one_number()
-    ensures one { (c : Config) (p : Known) (room other : ℕ) → IsRoom c p room → IsRoom c p other
-        → room ≡ other }
-    ensures bound { (c : Config) (p : Known) (room : ℕ) → IsRoom c p room
-        → room ≤ last_generation }
-{}
-
-/// An actor that does nothing, or looks, goes on by no marks, and two ways to go on are one.
-pub fn growth_composes()
-    ensures nothing { (p : Known) → AppendsMarks p p [] }
-    ensures look { (h : ℕ) (w : Word) (p q : Known) → WordLoaded h w p q → AppendsMarks p q [] }
-    ensures both { (p q r : Known) (xs ys : List Mark) → AppendsMarks p q xs → AppendsMarks q r ys
-        → AppendsMarks p r (xs ++ ys) }
-{}
-
-/// An actor that goes on by no marks has executed nothing, and two calls that execute are one.
-pub fn executions_compose()
-    ensures nothing { (p q : Known) (reads faults : ℕ) → AppendsMarks p q []
-        → ExecutesAll [] p q reads reads faults faults }
-    ensures both { (held : List Mark) (p q r : Known)
-        (reads reads' reads'' faults faults' faults'' : ℕ)
-        → ExecutesAll held p q reads reads' faults faults'
-        → ExecutesAll [] q r reads' reads'' faults' faults''
-        → ExecutesAll held p r reads reads'' faults faults'' }
-{}
-
-/// Tokens that stand at one place, no two of one incarnation, stay so where each is kept, and go
-/// together to another place where each goes there.
-pub fn distinct_tokens_stay<A>()
-    ensures tokens_stay { (place : Place) (reference_of : A → WaitRef) (p q : Known) (ts : List A)
-        → ((t : A) → IsIn t ts → TokenUnchangedAt place (reference_of t) p q)
-        → AreDistinctTokens reference_of (TokenIsAt place) p ts
-        → AreDistinctTokens reference_of (TokenIsAt place) q ts }
-    ensures tokens_moved { (from to : Place) (reference_of : A → WaitRef) (p q : Known) (ts : List A)
-        → ((t : A) → IsIn t ts → TokenIsAt from p (reference_of t) → TokenIsAt to q (reference_of t))
-        → AreDistinctTokens reference_of (TokenIsAt from) p ts → AreDistinctTokens reference_of (TokenIsAt to) q ts }
-    ensures each { (place : Place) (reference_of : A → WaitRef) (p : Known) (ts : List A) (t : A)
-        → AreDistinctTokens reference_of (TokenIsAt place) p ts → IsIn t ts → TokenIsAt place p (reference_of t) }
-{}
-
-/// A token of another incarnation may come to them, and one of them may go: the others are of other
-/// incarnations.
-pub fn distinct_tokens_change<A>()
-    ensures token_added { (place : Place) (reference_of : A → WaitRef) (p : Known) (ts : List A) (t : A)
-        → AreDistinctTokens reference_of (TokenIsAt place) p ts → TokenIsAt place p (reference_of t)
-        → ((u : A) → IsIn u ts → reference_of u ≢ reference_of t)
-        → AreDistinctTokens reference_of (TokenIsAt place) p (ts ++ t ∷ []) }
-    ensures token_removed { (place : Place) (reference_of : A → WaitRef) (p : Known) (front back : List A) (t : A)
-        → AreDistinctTokens reference_of (TokenIsAt place) p (front ++ t ∷ back)
-        → AreDistinctTokens reference_of (TokenIsAt place) p (front ++ back) }
-    ensures others_differ { (place : Place) (reference_of : A → WaitRef) (p : Known) (front back : List A) (t u : A)
-        → AreDistinctTokens reference_of (TokenIsAt place) p (front ++ t ∷ back) → IsIn u (front ++ back)
-        → reference_of u ≢ reference_of t }
 {}

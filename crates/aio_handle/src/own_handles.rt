@@ -5,8 +5,7 @@ ghost use Rattle.aio_word.specs.Words.{last_generation};
 ghost use Rattle.aio_handle.specs.declared.own_handles.OwnHandle.{OwnHandle};
 ghost use Rattle.aio_handle.specs.OwnHandles.{own_at, IsFreeHandle, HasRoom};
 
-/// The last generation of a handle: it is never handed out there.
-pub(crate) const LAST_GENERATION: u64 = (1 << 58) - 1;
+use aio_word::LAST_GENERATION;
 
 /// One of the actor's own handles: its generation, and whether that is defined.
 #[derive(Clone, Copy)]

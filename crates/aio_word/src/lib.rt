@@ -28,6 +28,9 @@ pub use laws::{
     step_keeps_stands, totals_agree,
 };
 
+/// The last generation of a handle: it is never handed out there.
+pub const LAST_GENERATION: u64 = (1 << 58) - 1;
+
 /// The state of a handle, after `PgAioHandleState` of `aio_internal.h`.
 #[derive(Clone, Copy, Debug, PartialEq, Eq)]
 pub enum State {

@@ -1,6 +1,6 @@
 //! Runs of the top call over files in memory, what they show and what they read.
-use aio_disk::{MemShelf, MemSink};
 use aioscan_cmd::{Report, aioscan};
+use fault_injection::{MemShelf, MemSink};
 use page_fixtures::files::{Faults, Files, one_file, segmented_shelf};
 use page_fixtures::pages::{EMPTY, bytes_of};
 use std::alloc::{AllocError, Global};

@@ -1,8 +1,8 @@
 //! Reads that wait for each other at disks of one shelf.
-use aio_disk::MemSink;
 use aioscan_cmd::{Report, aioscan};
 use aioscan_fixtures::runs::{TestOutcome, words_of};
 use blocking_disk::{BlockingShelf, ReadBarrier};
+use fault_injection::MemSink;
 use std::alloc::Global;
 use std::process::Abort;
 use std::sync::Wait;

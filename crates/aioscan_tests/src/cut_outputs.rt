@@ -1,10 +1,11 @@
 //! Outputs that fail, and what was said before.
 ghost use Rattle.std.specs.Prelude.{None};
 
-use aio_disk::{MemSink, Sink, WriteFault};
+use aio_disk::{Sink, WriteFault};
 use aioscan_cmd::{Line, aioscan};
 use aioscan_fixtures::rows::{check_rows, listing_of, pages_file};
 use aioscan_fixtures::runs::{check_outcome, run, two_files, words_of};
+use fault_injection::MemSink;
 use page_fixtures::files::{STEADY, one_file, shelf_of};
 use std::process::Abort;
 use std::sync::Wait;

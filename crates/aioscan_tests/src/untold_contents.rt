@@ -1,9 +1,10 @@
 //! Shelves that do not tell their contents.
 ghost use Rattle.std.specs.Prelude.{None, false};
 
-use aio_disk::{DeviceFault, Disk, MemSink, OpenFault, Shelf};
+use aio_disk::{DeviceFault, Disk, OpenFault, Shelf};
 use aioscan_cmd::{Report, aioscan};
 use aioscan_fixtures::runs::{TestOutcome, empty_lines, words_of};
+use fault_injection::MemSink;
 use page_check::Page;
 use page_fixtures::pages::{EMPTY, page_of};
 use std::alloc::Global;

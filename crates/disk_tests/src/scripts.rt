@@ -2,7 +2,8 @@
 ghost use Rattle.std.specs.Prelude.{◌≡◌, ◌<◌};
 
 use crate::answers::read;
-use aio_disk::{Disk, MemDisk, MemShelf, Script, have_distinct_names};
+use aio_disk::{Disk, have_distinct_names};
+use fault_injection::{MemDisk, MemShelf, Script};
 use page_fixtures::files::{Faults, names_of, one_file, open_disk, shelf_of};
 use std::alloc::{AllocError, Global};
 use std::process::Abort;

@@ -1,6 +1,7 @@
 //! Sinks in memory and over the two streams.
 
-use aio_disk::{MemSink, Sink, StdSink, WriteFault};
+use aio_disk::{Sink, StdSink, WriteFault};
+use fault_injection::MemSink;
 use std::alloc::Global;
 use std::fmt::Display;
 use std::io;

@@ -2,9 +2,8 @@
 ghost use Rattle.std.specs.Prelude.{◌≡◌, ◌<◌};
 
 use crate::answers::read;
-use aio_disk::{
-    Disk, MemShelf, OpenFault, ReadEntry, SteadyDisk, SteadyShelf, have_distinct_names,
-};
+use aio_disk::{Disk, OpenFault, ReadEntry, SteadyDisk, SteadyShelf, have_distinct_names};
+use fault_injection::MemShelf;
 use page_fixtures::files::{names_of, open_disk};
 use std::process::Abort;
 use std::test::Fail;

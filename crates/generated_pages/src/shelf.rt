@@ -3,7 +3,7 @@ ghost use Rattle.std.specs.Prelude.{◌≡◌, ◌≤◌, IfOk};
 ghost use Rattle.generated_pages.specs.GeneratedPages.{generated_shelf_files};
 
 use crate::generated::make_file;
-use aio_disk::{MemShelf, SteadyShelf};
+use aio_disk::SteadyShelf;
 use std::alloc::{AllocError, Global};
 
 /// A shelf of so many generated pages, which has one file.
@@ -13,5 +13,5 @@ pub fn generated_shelf(alloc: Global, pages: u32) -> Result<SteadyShelf, AllocEr
 {
     let mut files = Vec::with_capacity(alloc, 1)?;
     files.push((String::from_str(alloc, "made")?, make_file(alloc, pages)?))?;
-    MemShelf::steady(alloc, files, 0)
+    SteadyShelf::make(alloc, files, 0)
 }

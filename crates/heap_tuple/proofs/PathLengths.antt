@@ -1,12 +1,11 @@
 -- A path whose items are written down from its end on.
 use Rattle.std.proofs.Common.{◌≡◌, ◌≢◌, ℕ, zero, suc, ◌+◌, ◌<◌, ◌≤◌, Bool, true, false, ◌||◌, not}
 use Rattle.std.proofs.Common.{List, [], ◌∷◌, ◌++◌, length, refl, ap, sym, ◌∙◌, arith, inl, inr, set}
-use Rattle.std.proofs.Common.{get_or, subst, get_or-set_same, get_or-set_other, length-set, eq-eqb}
+use Rattle.std.proofs.Common.{get_or, subst, get_or-set_same, get_or-set_other, length-set}
 use Rattle.std.specs.Prelude.{nat_eq, ◌==◌, Option, Some, None, IfSome}
 use Rattle.std.specs.List.{IsDistinct}
-use Rattle.std.proofs.lemmas.Bool.{or_cases, or_left, or_right, or_from, eqb-true, both_ways}
+use Rattle.std.proofs.lemmas.Bool.{or_left, or_right, or_from, eqb-true, both_ways}
 use Rattle.std.proofs.lemmas.Bool.{cases_Bool, cases_eq, ne_eqb, not-false}
-use Rattle.std.proofs.lemmas.Bool.{not-true}
 use Rattle.std.proofs.lemmas.Bool.Decides.{nat_tests}
 use Rattle.heap_tuple.specs.Chains.{contains, StepsPass}
 use Rattle.heap_tuple.specs.ChainLengths.{AreChainLengths, PassedAreKnown, RemainingLength, IsPath}
@@ -52,18 +51,6 @@ module _ (next : ℕ → Option ℕ) where
     marked = λ x. is.passed x ∙ ap (λ (b : Bool). b || contains path x) (marked x);
     known = known;
   }
-
-  -- where it stopped at an item that has no length yet, that item stands on the path
-  pub open_back : (passed : List Bool) (lengths path : List ℕ) (first item : ℕ) (at : Option ℕ)
-      → IsOpen passed lengths path first at → get_or passed item false ≡ true
-      → get_or lengths item 0 ≡ 0 → contains path item ≡ true
-  open_back passed lengths path first item at is stopped none =
-      elim (or_cases (not (get_or lengths item 0 == 0)) (contains path item) (sym (is.marked item)
-      ∙ stopped)) [
-        | inl some ↦ absurd (both_ways (get_or lengths item 0 == 0)
-            (not-true (get_or lengths item 0 == 0) some) (eq-eqb (get_or lengths item 0) 0 none))
-        | inr here ↦ here
-      ]
 
   positive_test : (n : ℕ) → 0 < n → not (n == 0) ≡ true
   positive_test zero some = absurd (omega arith)
@@ -158,15 +145,6 @@ module _ (next : ℕ → Option ℕ) where
         (sym here, omega arith),
       )
 
-  pub open_done : (passed : List Bool) (lengths : List ℕ) (first long : ℕ) (at : Option ℕ)
-      → IsOpen passed lengths [] first at → RemainingLength lengths at long
-      → PassedAreKnown passed lengths × (0 < get_or lengths first 0)
-  open_done passed lengths first long at is remaining =
-      let here : RemainingLength lengths (Some first) long
-      = subst (λ o. RemainingLength lengths o long)
-      (sym is.steps) remaining in
-      (λ x. is.marked x ∙ or_false (not (get_or lengths x 0 == 0)), omega (arith, here.0, here.1))
-
   -- a known length is at most the number of items
   pub goes_few : (lengths : List ℕ) (at : Option ℕ) (long : ℕ)
       → ((x : ℕ) → x < length lengths → IfSome (next x) (λ y. y < length lengths))
@@ -230,13 +208,6 @@ module _ (next : ℕ → Option ℕ) where
       → Unwinds passed lengths path first long → path ≡ left ++ x ∷ [] → x < length lengths
   unwinds_inside passed lengths path left first x long is popped =
       is.is_open.inside x (rw popped (contains-right left (x ∷ []) x (contains-first x [])))
-
-  pub unwinds_done : (passed : List Bool) (lengths path : List ℕ) (first long : ℕ)
-      → Unwinds passed lengths path first long → path ≡ []
-      → PassedAreKnown passed lengths × (0 < get_or lengths first 0)
-  unwinds_done passed lengths path first long is over =
-      open_done passed lengths first long is.at
-      (subst (λ p. IsOpen passed lengths p first is.at) over is.is_open) is.remaining
 
   pub unwinds_chain : (passed : List Bool) (lengths path : List ℕ) (first long : ℕ)
       → Unwinds passed lengths path first long → path ≡ []

@@ -1,7 +1,7 @@
 -- A ring and the I/Os whose reads are in it.
-use Rattle.std.proofs.Common.{◌≡◌, ◌≢◌, ℕ, ◌<◌, ◌≤◌, List, [], ◌∷◌, ◌++◌, map, length, take, Option}
+use Rattle.std.proofs.Common.{◌≡◌, ◌≢◌, ℕ, ◌≤◌, List, [], ◌∷◌, ◌++◌, map, length, take, Option}
 use Rattle.std.proofs.Common.{Some, None, Result, Ok, Err, refl, sym, ap, ◌∙◌, subst, ⊎_elim, arith}
-use Rattle.std.proofs.lemmas.List.{map-append, length-map, length-take}
+use Rattle.std.proofs.lemmas.List.{map-append, length-take}
 use Rattle.std.specs.Prelude.{option_map, cond}
 use Rattle.std.specs.List.{length_refill}
 use Rattle.page_check.specs.Told.{Told}
@@ -24,12 +24,6 @@ use Rattle.method_ring.proofs.NumberedLookup.{in-held, in-without, in-pushed}
 module _ (pending : List Entry) (n : ℕ) (held : List ClaimedIo) (j : PendingReadsClaimed pending n
     held)
   where
-    pub room-for-one : length held < 8 → length pending < 8
-    room-for-one lt =
-        let same : length pending ≡ length held =
-        ap length j.pending_is ∙ length-map held claimed_entry in
-        omega arith
-
     pub new-number : NumbersBelow (length held) held → pending_entry (length held) pending ≡ None
     new-number below = ap (λ es. pending_entry (length held) es) j.pending_is
         ∙ none-pending (length held) held below

@@ -1,10 +1,8 @@
 -- What a runner saw to of the references that its seat popped.
-use Rattle.std.proofs.Common.{ℕ, ◌+◌, ◌≤◌, List, [], ◌∷◌, ◌++◌, arith, length-append}
+use Rattle.std.proofs.Common.{ℕ, ◌+◌, List, [], ◌∷◌, ◌++◌, arith, length-append}
 use Rattle.aio_word.specs.declared.Known.{Known}
 use Rattle.aio_word.specs.declared.Mark.{Mark}
 use Rattle.aio_word.specs.declared.WaitRef.{WaitRef}
-use Rattle.aio_word.specs.declared.Kind.TheVariants as kind
-use Rattle.aio_word.specs.declared.Step.TheVariants as event
 use Rattle.aio_word.specs.Tokens.{AppendsMarks}
 use Rattle.method_worker.specs.QueueViews.{SeatView}
 use Rattle.method_worker.specs.SeatCalls.{SeatPops}

@@ -10,6 +10,9 @@ ghost use Rattle.method_ring.specs.Pending.{entry, pending_entry, without_entry,
 use aio_disk::DeviceFault;
 use page_check::Page;
 
+/// How many reads a ring has room for, and so how many I/Os a group has at most.
+pub(crate) const ROOM: usize = 8;
+
 /// A read that was submitted to a ring and is not completed: its number, and what it reads.
 #[derive(Clone, Copy, Debug, PartialEq, Eq, Drop)]
 pub struct Entry {

@@ -4,14 +4,12 @@ ghost use Rattle.method_ring.specs.ClaimedIos.{claimed_number, claimed_with_numb
 ghost use Rattle.method_ring.specs.ClaimedIos.{without_claimed};
 
 use crate::listed::{Numbered, take_out};
+use crate::ring::ROOM;
 use aio_callback::ReadIo;
 use aio_handle::Claimed;
 use page_check::World;
 use std::alloc::{AllocError, Global};
 use std::marker::Model;
-
-/// How many I/Os a group has at most.
-pub(crate) const ROOM: usize = 8;
 
 /// A claimed I/O, under the number of its read in the ring. Contracts see the number, the reference
 /// and the record.

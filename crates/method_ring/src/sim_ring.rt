@@ -9,14 +9,11 @@ ghost use Rattle.method_ring.specs.SimRing.{new_idle_ring, new_sim_ring, place_o
 ghost use Rattle.method_ring.specs.SimRing.{number_picked, with_pick};
 
 use crate::listed::{Numbered, take_out};
-use crate::ring::{Entry, Ring};
+use crate::ring::{Entry, ROOM, Ring};
 use aio_disk::{DeviceFault, Disk};
 use page_check::Page;
 use std::alloc::{AllocError, Global};
 use std::marker::Model;
-
-/// How many reads a ring has room for.
-const ROOM: usize = 8;
 
 impl Numbered for Entry {
     ghost number = { entry_user };

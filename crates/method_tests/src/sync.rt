@@ -4,10 +4,11 @@ ghost use Rattle.aio_handle.specs.ContractViews.{IsActorOf, IsSameActor};
 
 use aio_batch::Batch;
 use aio_callback::{CallbackId, Counts, NoPlaces, ReadIo, laws};
-use aio_disk::{Disk, MemDisk, MemShelf, ReadEntry, Script, SteadyDisk, SteadyShelf};
+use aio_disk::{Disk, ReadEntry, SteadyDisk, SteadyShelf};
 use aio_handle::{Actor, Record, Table, Take};
 use aio_result::{AioResult, Status};
 use aio_word::Class;
+use fault_injection::{MemDisk, MemShelf, Script};
 use method_sync::{Runner, SyncMethod};
 use page_check::World;
 use std::alloc::{AllocError, Global};

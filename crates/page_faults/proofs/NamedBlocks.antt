@@ -1,16 +1,14 @@
 -- The block that tuples name as their own.
 use Rattle.std.proofs.Common.{◌≡◌, ℕ, List, [], ◌∷◌, ◌++◌, Bool, true, false, refl, sym}
 use Rattle.std.proofs.Common.{◌∙◌, ap, subst, cond}
-use Rattle.std.specs.Prelude.{Option, Some, None, filter, unwrap_or, ◌&&◌, ◌==◌, not}
+use Rattle.std.specs.Prelude.{Option, Some, None, filter, unwrap_or, ◌&&◌}
 use Rattle.std.specs.List.{list_all}
 use Rattle.std.proofs.lemmas.List.{append-nil}
 use Rattle.std.proofs.lemmas.List.Elements.{filter-append}
 use Rattle.std.proofs.lemmas.List.Folds.{list_all-append}
-use Rattle.page_faults.specs.declared.fault.Fault as fault
 use Rattle.page_faults.specs.declared.witnesses.Witnesses.{Witnesses}
-use Rattle.page_faults.specs.HeaderFaults.{fault_if}
 use Rattle.page_faults.specs.ItemFaults.{header_of_item}
-use Rattle.page_faults.specs.Misplaced.{AreWitnesses, first_named, is_of_block, is_at, misplaced_by}
+use Rattle.page_faults.specs.Misplaced.{AreWitnesses, first_named, is_of_block, is_at}
 use Rattle.page_faults.specs.Misplaced.{names_itself, witnesses_of}
 
 pub witnesses_none : (page : List ℕ) → AreWitnesses page [] (record { named = None; agree = true })
@@ -101,38 +99,6 @@ witnesses_with page items index named kept agree one are name all =
       named = keeps.block ∙ ap (first_named page) more;
       agree = keeps.all ∙ ap (list_all (is_of_block page named)) more;
     }
-
--- the fault by what is kept
-misplaced_by-none : (page : List ℕ) (block : ℕ) (list : List ℕ) → None ≡ first_named page list
-    → misplaced_by page block list ≡ []
-misplaced_by-none page block [] none = refl
-misplaced_by-none page block (x ∷ xs) none = absurd (cc)
-
-misplaced_by-some : (page : List ℕ) (block named : ℕ) (list : List ℕ) (agree : Bool)
-    → Some named ≡ first_named page list → agree ≡ list_all (is_of_block page named) list
-    → misplaced_by page block list
-    ≡ fault_if (not (named == block) && agree) (fault.TheVariants.Misplaced named)
-misplaced_by-some page block named [] agree some all = absurd (cc)
-misplaced_by-some page block named (x ∷ xs) agree some all =
-    let name : named ≡ (header_of_item page x).block = cc in
-    sym (ap (λ (b : Bool). fault_if (not (named == block) && b) (fault.TheVariants.Misplaced named)) all
-    ∙ ap (λ (n : ℕ). fault_if (not (n == block) && list_all (is_of_block page n) (x ∷ xs))
-    (fault.TheVariants.Misplaced n)) name)
-
-pub misplaced-none : (page items : List ℕ) (block : ℕ) (kept : Witnesses)
-    → AreWitnesses page items kept → kept.named ≡ None
-    → misplaced_by page block (witnesses_of page items) ≡ []
-misplaced-none page items block kept are none =
-    misplaced_by-none page block (witnesses_of page items) (sym none ∙ are.named)
-
-pub misplaced-some : (page items : List ℕ) (block named : ℕ) (kept : Witnesses)
-    → AreWitnesses page items kept → kept.named ≡ Some named
-    → misplaced_by page block (witnesses_of page items)
-    ≡ fault_if (not (named == block) && kept.agree) (fault.TheVariants.Misplaced named)
-misplaced-some page items block named kept are some =
-    misplaced_by-some page block named (witnesses_of page items) kept.agree (sym some ∙ are.named)
-    (are.agree ∙ ap (λ (o : Option ℕ). list_all (is_of_block page (unwrap_or o 0))
-    (witnesses_of page items)) some)
 
 pub witnesses_of_same : (page items others : List ℕ) (kept : Witnesses) → others ≡ items
     → AreWitnesses page items kept → AreWitnesses page others kept

@@ -1,7 +1,8 @@
 //! Relation files in memory, and the shelves and disks over them.
 ghost use Rattle.std.specs.Prelude.{◌≡◌, ◌≤◌, ◌<◌, IfOk, length};
 
-use aio_disk::{Disk, MemShelf, ReadEntry, Script, Shelf, SteadyShelf, have_distinct_names};
+use aio_disk::{Disk, ReadEntry, Shelf, SteadyShelf, have_distinct_names};
+use fault_injection::{MemShelf, Script};
 use page_check::Page;
 use std::alloc::{AllocError, Global};
 use std::test::Fail;

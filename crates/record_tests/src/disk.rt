@@ -7,7 +7,7 @@ ghost use Rattle.aio_callback.specs.StreamOutcomes.{stream_ids, IsStreamOutcome,
 use crate::reads::{Ending, ending_of, is_blank, result_of, told_zeroed};
 use aio_callback::CallbackId::{Buffer, Count, File, ZeroBuffer};
 use aio_callback::{CallbackId, NoPlaces, Raw, ReadIo, laws};
-use aio_disk::{Disk, MemShelf, SteadyDisk, have_distinct_names};
+use aio_disk::{Disk, SteadyDisk, SteadyShelf, have_distinct_names};
 use aio_result::Status;
 use aio_word::Class;
 use page_check::World;
@@ -62,7 +62,7 @@ fn three_blocks(alloc: Global) -> Result<SteadyDisk, Fail>
     if !have_distinct_names(files.as_slice()) {
         return Err(Fail::from("a name is given twice"));
     }
-    let mut shelf = MemShelf::steady(alloc, files, 8)?;
+    let mut shelf = SteadyShelf::make(alloc, files, 8)?;
     Ok(shelf.open(names.as_slice()).ok().ok_or("no disk")?)
 }
 

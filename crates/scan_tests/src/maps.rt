@@ -3,7 +3,7 @@ use crate::helpers::files::lines;
 use crate::helpers::map_rounds::{MapScanRequest, MapScanResult, scan_by_map};
 use crate::helpers::opening::{METHODS, USUAL};
 use crate::helpers::rounds::JobResult;
-use aio_disk::MemShelf;
+use fault_injection::MemShelf;
 use page_fixtures::files::{Faults, STEADY, blocks_read, one_file, shelf_of};
 use page_fixtures::pages::{CONTENTS, EMPTY, Parts, bytes_of, numbered_pages, page_of, put_bytes};
 use scan_rounds::{Ending, MethodKind, ScanSettings};

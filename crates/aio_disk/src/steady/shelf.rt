@@ -1,19 +1,21 @@
 //! Shelves in memory whose disks do not fail.
-ghost use Rattle.std.specs.Prelude.{◌≡◌, ◌≤◌, map, Some, IfOk, OnOk, IsErrOf, string_bytes};
+ghost use Rattle.std.specs.Prelude.{◌≡◌, ◌≤◌, map, Some, IfOk, OnOk, IsErrOf, IsTrue};
+ghost use Rattle.std.specs.Prelude.{string_bytes};
 ghost use Rattle.aio_disk.specs.declared.fault.OpenFault.TheVariants.{Device, Memory};
 ghost use Rattle.aio_disk.specs.Shelf.{AllThere, OneMissing, are_there, named_file, files_in};
+ghost use Rattle.aio_disk.specs.Shelf.{have_distinct_names};
 ghost use Rattle.aio_disk.specs.Steady.{fresh_shelf, next_disk, with_disk, with_open_fault};
 ghost use Rattle.aio_disk.specs.Steady.{with_disk_back};
 
 use super::SteadyDisk;
 use crate::read_log::ReadLog;
+use crate::segments::SEGMENT_SIZE;
 use crate::shared_bytes::{NamedFile, find_relations, share_files};
 use crate::{OpenFault, ReadEntry, Shelf};
 use std::alloc::{AllocError, Global};
 use std::marker::Model;
 
-/// A shelf in memory whose disks do not fail: made by
-/// [`MemShelf::steady`](crate::MemShelf::steady).
+/// A shelf in memory whose disks do not fail.
 #[derive(Drop)]
 pub struct SteadyShelf {
     alloc: Global,
@@ -44,7 +46,26 @@ impl Model for SteadyShelf {
 }
 
 impl SteadyShelf {
-    pub(crate) fn new(
+    /// A shelf over these files, whose disks do not fail.
+    ///
+    /// It takes the room for its log of reads, `log_room` entries, and each `open` takes as much
+    /// for its disk's log, so that reading and taking back take no memory.
+    pub fn make(
+        alloc: Global,
+        files: Vec<(String, Vec<u8>)>,
+        log_room: usize,
+    ) -> Result<SteadyShelf, AllocError>
+        requires distinct { IsTrue (have_distinct_names (map named_file files.items)) }
+        ensures fresh { IfOk result (λ shelf.
+            shelf ≡ fresh_shelf (files_in 131072 (map named_file files.items)) log_room) }
+    {
+        SteadyShelf::make_segmented(alloc, files, SEGMENT_SIZE, log_room)
+    }
+
+    /// The same with a segment size of its own, in blocks: a file named `NAME.1` is the second
+    /// segment of the relation `NAME`, and counts where `NAME` has exactly `segment` blocks. Of two
+    /// files of one name the first counts.
+    pub fn make_segmented(
         alloc: Global,
         files: Vec<(String, Vec<u8>)>,
         segment: u32,
@@ -110,7 +131,7 @@ impl SteadyShelf {
     }
 
     /// Counts an open that failed.
-    pub(crate) fn count_open_fault(&mut self)
+    pub fn count_open_fault(&mut self)
         ensures { self.new ≡ with_open_fault self.old }
     {
         self.open_fault_count = self.open_fault_count.saturating_add(1);

@@ -2,7 +2,8 @@
 ghost use Rattle.std.specs.Prelude.{◌≡◌, ◌<◌, ◌≤◌, [], IfOk, length};
 ghost use Rattle.method_tests.specs.PendingReads.{AreReadInto};
 
-use aio_disk::{Disk, MemShelf, SteadyDisk, SteadyShelf};
+use aio_disk::{Disk, SteadyDisk, SteadyShelf};
+use fault_injection::MemShelf;
 use method_ring::{Ring, SimRing};
 use page_check::Page;
 use std::alloc::{AllocError, Global};

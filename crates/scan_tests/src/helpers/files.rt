@@ -1,5 +1,5 @@
 //! Shelves of one file, the lines of its pages and the reads that were made.
-use aio_disk::MemShelf;
+use fault_injection::MemShelf;
 use page_fixtures::files::{Faults, STEADY, one_file, shelf_of};
 use page_fixtures::pages::numbered_pages;
 use std::alloc::{AllocError, Global};

@@ -5,8 +5,8 @@ use Rattle.aio_disk.specs.Counts.{count_plus}
 use Rattle.aio_disk.specs.Steady.{SteadyDiskState, SteadyShelfState, next_disk, fresh_shelf}
 use Rattle.aio_disk.specs.Steady.{with_disk, with_open_fault, with_disk_back, with_read}
 use Rattle.aio_disk.specs.Shelf.{Files}
-use Rattle.aio_disk.specs.Script.{fails_open, fails_length, fails_read, short_answer}
-use Rattle.aio_disk.specs.declared.script.Script.{Script}
+use Rattle.fault_injection.specs.Script.{fails_open, fails_length, fails_read, short_answer}
+use Rattle.fault_injection.specs.declared.script.Script.{Script}
 
 -- a disk: its files with its reads, the script, how often a length was asked for, and how often a
 -- length and a read have failed

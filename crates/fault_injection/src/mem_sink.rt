@@ -1,10 +1,10 @@
 //! A sink in memory.
 ghost use Rattle.std.specs.Prelude.{◌≡◌, take, Some, IfSome, OnOk, IsErrOf, IsNone, IsSome};
 ghost use Rattle.aio_disk.specs.declared.fault.WriteFault.TheVariants.{Device, Memory};
-ghost use Rattle.aio_disk.specs.MemSink.{fresh_sink, cut_of, next_cut, with_write};
-ghost use Rattle.aio_disk.specs.MemSink.{with_failed_write};
+ghost use Rattle.fault_injection.specs.MemSink.{fresh_sink, cut_of, next_cut, with_write};
+ghost use Rattle.fault_injection.specs.MemSink.{with_failed_write};
 
-use crate::{Sink, WriteFault};
+use aio_disk::{Sink, WriteFault};
 use std::alloc::Global;
 use std::marker::Model;
 
@@ -18,7 +18,7 @@ pub struct MemSink {
 }
 
 impl Model for MemSink {
-    ghost use Rattle.aio_disk.specs.MemSink.{MemSinkState};
+    ghost use Rattle.fault_injection.specs.MemSink.{MemSinkState};
 
     ghost Value = { MemSinkState };
 

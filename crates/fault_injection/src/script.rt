@@ -1,7 +1,7 @@
 //! Scripts of faults and short answers for shelves in memory.
 ghost use Rattle.std.specs.Prelude.{◌≡◌, ◌<◌, ◌-◌, ◌^◌, unwrap_or, true};
 ghost use Rattle.std.specs.Option.{option_map};
-ghost use Rattle.aio_disk.specs.Script.{are_positive, is_listed};
+ghost use Rattle.fault_injection.specs.Script.{are_positive, is_listed};
 
 /// What fails, and which reads answer short.
 ///
@@ -21,8 +21,8 @@ pub struct Script {
 }
 
 impl Script {
-    ghost use Rattle.aio_disk.specs.Script.{fails_open, fails_length, fails_read, shorts_of};
-    ghost use Rattle.aio_disk.specs.Script.{short_answer, has_positive_shorts};
+    ghost use Rattle.fault_injection.specs.Script.{fails_open, fails_length, fails_read, shorts_of};
+    ghost use Rattle.fault_injection.specs.Script.{short_answer, has_positive_shorts};
 
     /// Whether each short answer is at least 1, as a shelf in memory wants it.
     pub fn has_positive_shorts(&self) -> bool

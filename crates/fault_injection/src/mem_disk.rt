@@ -3,11 +3,12 @@ ghost use Rattle.std.specs.Prelude.{◌≡◌, ◌≤◌, ◌<◌, ◌-◌, min,
 ghost use Rattle.page_check.specs.Told.{relation_block_count, relation_bytes};
 ghost use Rattle.std.specs.Arc.{arc_value};
 ghost use Rattle.aio_disk.specs.Disk.{HoldsBlocks};
-ghost use Rattle.aio_disk.specs.Script.{capped_length, has_positive_shorts};
-ghost use Rattle.aio_disk.specs.Scripted.{fresh_mem_disk, fails_next_length, fails_next_read};
-ghost use Rattle.aio_disk.specs.Scripted.{next_short_answer, with_length_call, with_scripted_read};
+ghost use Rattle.fault_injection.specs.Script.{capped_length, has_positive_shorts};
+ghost use Rattle.fault_injection.specs.Scripted.{fresh_mem_disk, fails_next_length, fails_next_read};
+ghost use Rattle.fault_injection.specs.Scripted.{next_short_answer, with_length_call, with_scripted_read};
 
-use crate::{DeviceFault, Disk, Script, SteadyDisk};
+use crate::Script;
+use aio_disk::{DeviceFault, Disk, SteadyDisk};
 use page_check::Page;
 use std::alloc::Global;
 use std::marker::Model;
@@ -26,8 +27,8 @@ pub struct MemDisk {
 impl Model for MemDisk {
     ghost use Rattle.std.specs.Prelude.{◌≡◌, true};
     ghost use Rattle.std.specs.Arc.{arc_value};
-    ghost use Rattle.aio_disk.specs.Script.{has_positive_shorts};
-    ghost use Rattle.aio_disk.specs.Scripted.{MemDiskState};
+    ghost use Rattle.fault_injection.specs.Script.{has_positive_shorts};
+    ghost use Rattle.fault_injection.specs.Scripted.{MemDiskState};
 
     ghost Value = { MemDiskState };
 

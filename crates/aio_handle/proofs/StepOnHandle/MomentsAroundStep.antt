@@ -27,8 +27,8 @@ use Rattle.aio_handle.specs.TableInvariant.{TableInvariant}
 use Rattle.aio_handle.specs.KnownChanges.{known_after}
 use Rattle.aio_handle.proofs.SeatLists.{index-below}
 use Rattle.aio_handle.proofs.StateAtStep.{StepFinds, stood-here, numbered-here, moment-now}
-use Rattle.aio_handle.proofs.InvariantAfterStep.{same-length}
-use Rattle.aio_handle.proofs.EventEffects.{ListEffect}
+use Rattle.aio_handle.proofs.StepOnHandle.InvariantAfterStep.{same-length}
+use Rattle.aio_handle.proofs.StepOnHandle.EventEffects.{ListEffect}
 
 -- a step of the machine from a moment of an actor to its next one
 pub record Passes (c : Config) (h : ℕ) (w w' : Word) (e : Event) (p q : Known) : Type 0 where

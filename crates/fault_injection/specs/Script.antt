@@ -4,7 +4,7 @@ use Rattle.std.specs.Prelude.{ℕ, ◌-◌, List, Bool, ◌&&◌, ◌==◌, nat_
 use Rattle.std.specs.Prelude.{option_and_then, find, slice_get, min}
 use Rattle.std.specs.Option.{option_map}
 use Rattle.std.specs.List.{list_any, list_all}
-use Rattle.aio_disk.specs.declared.script.Script.{Script}
+use Rattle.fault_injection.specs.declared.script.Script.{Script}
 
 -- open k of the shelf fails
 abbrev pub fails_open : Script → ℕ → Bool

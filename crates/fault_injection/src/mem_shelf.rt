@@ -1,44 +1,19 @@
-//! Shelves in memory.
+//! Shelves in memory that fail as a script says.
 ghost use Rattle.std.specs.Prelude.{◌≡◌, ◌⊎◌, ◌≤◌, map, IfOk, OnOk, IsErrOf};
 ghost use Rattle.std.specs.Prelude.{IsTrue, Some, true, false, string_bytes};
 ghost use Rattle.aio_disk.specs.declared.fault.OpenFault.TheVariants.{Device, Memory};
-ghost use Rattle.aio_disk.specs.Shelf.{named_file, files_in, has_name, have_distinct_names};
+ghost use Rattle.aio_disk.specs.Shelf.{named_file, files_in, have_distinct_names};
 ghost use Rattle.aio_disk.specs.Shelf.{AllThere, OneMissing};
-ghost use Rattle.aio_disk.specs.Script.{has_positive_shorts};
 ghost use Rattle.aio_disk.specs.Steady.{fresh_shelf};
-ghost use Rattle.aio_disk.specs.Scripted.{fresh_mem_shelf, fails_next_open, next_mem_disk};
-ghost use Rattle.aio_disk.specs.Scripted.{with_mem_disk, with_failed_open, with_mem_disk_back};
+ghost use Rattle.fault_injection.specs.Script.{has_positive_shorts};
+ghost use Rattle.fault_injection.specs.Scripted.{fresh_mem_shelf, fails_next_open, next_mem_disk};
+ghost use Rattle.fault_injection.specs.Scripted.{with_mem_disk, with_failed_open, with_mem_disk_back};
 
-use crate::segments::SEGMENT_SIZE;
-use crate::{MemDisk, OpenFault, ReadEntry, Script, Shelf, SteadyShelf};
+use crate::{MemDisk, Script};
+use aio_disk::{OpenFault, ReadEntry, SEGMENT_SIZE, Shelf, SteadyShelf};
 use std::alloc::{AllocError, Global};
 use std::marker::Model;
 use std::sync::Arc;
-
-// Whether one of the files has this name.
-fn has_name(files: &[(String, Vec<u8>)], name: &str) -> bool
-    ensures { result ≡ has_name (map named_file files.now) name.now }
-{
-    for file in files {
-        if file.0.as_str() == name {
-            return true;
-        }
-    }
-    false
-}
-
-/// Whether no two of the files have one name, as a shelf in memory wants it. It compares each
-/// name with each.
-pub fn have_distinct_names(files: &[(String, Vec<u8>)]) -> bool
-    ensures { result ≡ have_distinct_names (map named_file files.now) }
-{
-    for index in 0..files.len() {
-        if has_name(&files[index + 1..], files[index].0.as_str()) {
-            return false;
-        }
-    }
-    true
-}
 
 /// A shelf in memory, whose disks fail as its script says.
 #[derive(Drop)]
@@ -53,8 +28,8 @@ pub struct MemShelf {
 impl Model for MemShelf {
     ghost use Rattle.std.specs.Prelude.{◌≡◌, true};
     ghost use Rattle.std.specs.Arc.{arc_value};
-    ghost use Rattle.aio_disk.specs.Script.{has_positive_shorts};
-    ghost use Rattle.aio_disk.specs.Scripted.{MemShelfState};
+    ghost use Rattle.fault_injection.specs.Script.{has_positive_shorts};
+    ghost use Rattle.fault_injection.specs.Scripted.{MemShelfState};
 
     ghost Value = { MemShelfState };
 
@@ -70,7 +45,7 @@ impl Model for MemShelf {
 }
 
 impl MemShelf {
-    /// A shelf over these files, whose disks do not fail.
+    /// A shelf over these files, whose disks do not fail: [`SteadyShelf::make`].
     ///
     /// It takes the room for its log of reads, `log_room` entries, and each `open` takes as much
     /// for its disk's log, so that reading and taking back take no memory.
@@ -83,7 +58,7 @@ impl MemShelf {
         ensures fresh { IfOk result (λ shelf.
             shelf ≡ fresh_shelf (files_in 131072 (map named_file files.items)) log_room) }
     {
-        SteadyShelf::new(alloc, files, SEGMENT_SIZE, log_room)
+        SteadyShelf::make(alloc, files, log_room)
     }
 
     /// A shelf over these files, whose disks fail as the script says. It takes the room for its
@@ -121,7 +96,7 @@ impl MemShelf {
             log_room) }
     {
         Ok(MemShelf {
-            shelf: SteadyShelf::new(alloc, files, segment, log_room)?,
+            shelf: SteadyShelf::make_segmented(alloc, files, segment, log_room)?,
             shared_script: Arc::new(alloc, script)?,
             open_count: 0,
             length_fault_count: 0,

@@ -26,12 +26,12 @@ use Rattle.aio_handle.specs.KnownChanges.{known_after}
 use Rattle.aio_handle.specs.CallEvents.{EventMade, IsByOwner, generation_of}
 use Rattle.aio_handle.proofs.StateAtStep.{StepFinds, stood-here, ruled-here, actor-here, others}
 use Rattle.aio_handle.proofs.StateAtStep.{before-here}
-use Rattle.aio_handle.proofs.EventEffects.{ListEffect, list-effect}
-use Rattle.aio_handle.proofs.NoteEffects.{StepOfAnyActor, NoteEffect}
+use Rattle.aio_handle.proofs.StepOnHandle.EventEffects.{ListEffect, list-effect}
+use Rattle.aio_handle.proofs.StepOnHandle.NoteEffects.{StepOfAnyActor, NoteEffect}
 use Rattle.aio_handle.proofs.SeatLists.{index-below}
 use Rattle.atomic_table.proofs.Lists.{set_here, set_else}
-use Rattle.aio_handle.proofs.InvariantAfterStep.{invariant-after}
-use Rattle.aio_handle.proofs.MomentsAroundStep.{Passes, along, alone, reached-now, passes}
+use Rattle.aio_handle.proofs.StepOnHandle.InvariantAfterStep.{invariant-after}
+use Rattle.aio_handle.proofs.StepOnHandle.MomentsAroundStep.{Passes, along, alone, reached-now, passes}
 
 same-nat : (a b : ℕ) → (a == b) ≡ true → a ≡ b
 same-nat a b h = grind (arith, nat_tests)

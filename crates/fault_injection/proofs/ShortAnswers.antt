@@ -6,8 +6,8 @@ use Rattle.std.specs.List.{list_all}
 use Rattle.std.proofs.lemmas.Bool.{ltb-true}
 use Rattle.std.specs.Option.{option_map}
 use Rattle.std.specs.declared.alloc.Global.{Global}
-use Rattle.aio_disk.specs.Script.{are_positive, has_positive_shorts, short_answer}
-use Rattle.aio_disk.specs.declared.script.Script.{Script}
+use Rattle.fault_injection.specs.Script.{are_positive, has_positive_shorts, short_answer}
+use Rattle.fault_injection.specs.declared.script.Script.{Script}
 
 both : (a b : Bool) → a && b ≡ true → (a ≡ true) × (b ≡ true)
 both true b h = (refl, h)

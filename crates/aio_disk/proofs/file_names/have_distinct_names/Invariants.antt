@@ -1,6 +1,6 @@
 use Rattle.std.proofs.Common.{◌≡◌, map, drop}
 use Rattle.aio_disk.specs.Shelf.{named_file, have_distinct_names}
-use Rattle.aio_disk.proofs.mem_shelf.have_distinct_names.Given as goal
+use Rattle.aio_disk.proofs.file_names.have_distinct_names.Given as goal
 
 abbrev pub invariant-loop-index : goal.invariant-loop-index
 invariant-loop-index l =

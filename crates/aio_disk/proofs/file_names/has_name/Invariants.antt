@@ -1,6 +1,6 @@
 use Rattle.std.proofs.Common.{◌≡◌, map, drop}
 use Rattle.aio_disk.specs.Shelf.{named_file, has_name}
-use Rattle.aio_disk.proofs.mem_shelf.has_name.Given as goal
+use Rattle.aio_disk.proofs.file_names.has_name.Given as goal
 
 abbrev pub invariant-loop-file : goal.invariant-loop-file
 invariant-loop-file l =

@@ -24,7 +24,7 @@ use Rattle.aio_handle.specs.TableInvariant.{TableInvariant}
 use Rattle.aio_handle.specs.KnownChanges.{known_after}
 use Rattle.aio_handle.proofs.StateAtStep.{StepFinds, stood-here}
 use Rattle.aio_handle.proofs.LivesCounted.{lives_ended-push, other-life}
-use Rattle.aio_handle.proofs.InvariantAfterStep.{seen-max}
+use Rattle.aio_handle.proofs.StepOnHandle.InvariantAfterStep.{seen-max}
 
 -- what an event does to the lists
 pub record ListEffect (c : Config) (h : ℕ) (a b : List Known) (p p1 : Known)
