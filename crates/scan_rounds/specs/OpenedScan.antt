@@ -68,6 +68,7 @@ module _ {W D : Type 0} where
   -- the memory of a scan with these settings, in which nothing was done
   pub record IsScanMemory (s : ScanSettings) (start : ℕ) (m : Memory W D) : Type 0 where
     pub config : m.shared.table.config ≡ config_of s start
+    pub frames : m.shared.pool ≡ s.buffers
     pub actors_are : length m.actors.items ≡ s.backends + workers_of_settings s
     pub actors : AreNewActors m.shared.table 0 m.actors.items
     pub seats_are : length m.seats.items ≡ seats_of_settings s
@@ -125,6 +126,7 @@ pub record IsOpenedScan {W D : Type 0} (m : DiskGhosts D) (world : WorldGhosts W
     (settings : ScanSettings) (start : ℕ) (disks : List D) (s : Scan W D) : Type 0 where
   pub is : IsScan m world s
   pub config : s.shared.table.config ≡ config_of settings start
+  pub frames : s.shared.pool ≡ settings.buffers
   pub set_up : All (IsBackendSetUp settings) s.backends.items
   pub opened : opened_disks s ≡ disks
   pub no_results : results_taken_count s.backends.items ≡ 0

@@ -135,6 +135,7 @@ fn open_shared<W: World>(
         × (length c.1.items ≡ settings.now.backends + workers_of_settings settings.now)) }
     ensures seats { IfOk result (λ c. All (IsSeatOf c.0.queue) c.2.items
         × (length c.2.items ≡ seats_of_settings settings.now + rings_of_settings settings.now)) }
+    ensures frames { IfOk result (λ c. c.0.pool ≡ settings.now.buffers) }
 {
     let workers = settings.worker_count();
     let seats = settings.seat_count() + settings.ring_count();

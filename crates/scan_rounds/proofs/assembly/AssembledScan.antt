@@ -40,6 +40,7 @@ module _ {W D : Type 0} where
   pub record IsMadeOf (settings : ScanSettings) (start : ℕ) (s : Scan W D) (p q r : Parts W D)
       : Type 0 where
     pub config : s.shared.table.config ≡ config_of settings start
+    pub frames : s.shared.pool ≡ settings.buffers
     pub actors : AreNewActors s.shared.table 0 (into_iter_items p.actors)
     pub seats : All (IsSeatOf s.shared.queue) (into_iter_items p.seats)
     pub desks : All (IsDeskFor settings) (into_iter_items p.desks)
@@ -188,6 +189,7 @@ module _ {W D : Type 0} where
         let Q : List D → Type 0 = λ ds. All P ds in record {
           is = is_scan m world (subst Q (sym same) tell);
           config = made.config;
+          frames = made.frames;
           set_up = λ k b lt. record {
             streams = (all_desks k b lt).streams;
             seat = all_seated k b lt;

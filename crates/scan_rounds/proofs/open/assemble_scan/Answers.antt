@@ -56,6 +56,7 @@ returns g c =
     opened_scan c.args.settings.now c.args.start scan _ _ _ c.requires.settings c.requires.start
     record {
       config = memory.config;
+      frames = memory.frames;
       actors = subst (λ (l : List ActorView). AreNewActors c.args.memory.shared.table 0 l)
           (sym c.into_iter.ensures.rest) memory.actors;
       seats = subst (λ (l : List SeatView). All (IsSeatOf c.args.memory.shared.queue) l)

@@ -9,6 +9,7 @@ returns g c =
     let many = c.ring_count.ensures in
     record {
       config = shared.config;
+      frames = shared.frames;
       actors_are = shared.actors.1;
       actors = shared.actors.0;
       seats_are = omega (arith, shared.seats.1, rings.left, many);
