@@ -1,8 +1,8 @@
 //! What a scan lists, job by job, and what becomes of the pages of its jobs.
 //!
 //! A [`Job`] asks for some blocks of a relation. A [`JobSource`] gives the jobs of a run and takes
-//! them back. [`neighbouring_jobs`] says which jobs one stream can read, and [`UnskippedBlocks`] gives a
-//! stream their blocks, without those that a [`MapFilter`] leaves out. A [`Consumer`] takes what
+//! them back. [`neighbouring_jobs`] says which jobs one stream can read. [`UnskippedBlocks`] gives
+//! a stream their blocks, without those that a [`MapFilter`] leaves out. A [`Consumer`] takes what
 //! the stream answers: a [`Listing`] puts each page into its job, as text and as sums, and
 //! [`MapPages`] adds it to a visibility map.
 //!
@@ -10,9 +10,9 @@
 //!
 //! # What the contracts mean
 //!
-//! A job is listed where its text, its warnings, its sums and its ending are those of answers to its
-//! blocks (`JobIsListed`, by `IsJobAnswer` of heap_scan). A consumer says what it holds of the pages
-//! that it has taken, and each page that it takes stands behind those before (`AnswerConsumed`).
+//! A job is listed where its text, its warnings, its sums and its ending are those of answers to
+//! its blocks (`JobIsListed`, by `IsJobAnswer` of heap_scan). A consumer says what it holds of the
+//! pages that it has taken. Each page that it takes stands behind those before (`AnswerConsumed`).
 #![tactic(auto)]
 
 mod consumer;

@@ -1,4 +1,4 @@
-mod WiderAnswers
+pub mod WiderAnswers
 mod StreamCalls
 mod LeastRoom
 mod ListPairs
