@@ -166,3 +166,13 @@ fn a_fault_is_that_of_its_file(rt: HostRuntime) -> Result<(), Fail> {
     shelf.take_back(disk);
     remove(&rt, &["half", "half.1"])
 }
+
+// Blocks beyond 4 GB of one file, and 128 pages by one read.
+const OF_LONG: Reads<'static> = &[((599_999, 2), &[9]), ((0, 128), &[0; 128])];
+
+#[test]
+fn a_long_file_is_read_at_its_end(rt: HostRuntime) -> Result<(), Fail> {
+    make_sparse(&rt, "long", 600_000, 9)?;
+    check_relation(&rt, "long", 600_000, OF_LONG)?;
+    remove(&rt, &["long"])
+}

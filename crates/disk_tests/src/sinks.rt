@@ -5,6 +5,7 @@ use fault_injection::MemSink;
 use std::alloc::Global;
 use std::fmt::Display;
 use std::io;
+use std::sync::atomic::{AtomicU64, Ordering};
 use std::test::Fail;
 
 #[test]
@@ -31,11 +32,13 @@ struct OneStream {
     alloc: Global,
     open: Stream,
     text: &'static str,
+    writes: AtomicU64,
 }
 
 impl OneStream {
     fn print_to(&self, stream: Stream, bytes: &[u8]) -> io::Result<()> {
         if stream == self.open && bytes == self.text.as_bytes() {
+            self.writes.fetch_add(1, Ordering::SeqCst);
             Ok(())
         } else {
             Err(io::Error::from(io::ErrorKind::BrokenPipe))
@@ -80,20 +83,22 @@ fn is_taken(alloc: Global, open: Stream, stream: Stream, bytes: &[u8]) -> bool {
     let streams = OneStream {
         alloc,
         open,
-        text: "text",
+        text: "text\n",
+        writes: AtomicU64::new(0),
     };
-    match stream {
+    let taken = match stream {
         Stream::Out => StdSink::out(&streams).write(bytes).is_ok(),
         Stream::Err => StdSink::err(&streams).write(bytes).is_ok(),
-    }
+    };
+    taken && streams.writes.load(Ordering::SeqCst) == 1
 }
 
 // The stream that takes text, the stream that is written to, the bytes, and whether they are taken.
 const WRITES: [(Stream, Stream, &[u8], bool); 7] = [
-    (Stream::Out, Stream::Out, b"text", true),
-    (Stream::Out, Stream::Err, b"text", false),
-    (Stream::Err, Stream::Out, b"text", false),
-    (Stream::Err, Stream::Err, b"text", true),
+    (Stream::Out, Stream::Out, b"text\n", true),
+    (Stream::Out, Stream::Err, b"text\n", false),
+    (Stream::Err, Stream::Out, b"text\n", false),
+    (Stream::Err, Stream::Err, b"text\n", true),
     (Stream::Out, Stream::Out, b"other", false),
     (Stream::Err, Stream::Err, b"other", false),
     (Stream::Err, Stream::Err, b"no text: \xff", false),

@@ -16,7 +16,7 @@ const ZEROING: Settings = Settings {
     ..FULL
 };
 
-const DAMAGED: [Row<'static>; 6] = [
+const DAMAGED: [Row<'static>; 7] = [
     Row {
         name: "full look-ahead stops at a bad page",
         case: Case {
@@ -104,6 +104,25 @@ const DAMAGED: [Row<'static>; 6] = [
         },
         pages: 12,
         reads: Some(&[(0, 1), (1, 2), (2, 1), (3, 8), (11, 1)]),
+        ..ROW
+    },
+    // An earlier stream has read all four blocks, by two reads.
+    Row {
+        name: "the rest of a short read is in the pool",
+        case: Case {
+            blocks: 4,
+            faults: Faults {
+                shorts: &[1],
+                ..STEADY
+            },
+            settings: Settings { combine: 4, ..FULL },
+            first: Blocks::From(0, 4),
+            list: Blocks::From(0, 4),
+            ..CASE
+        },
+        pages: 4,
+        reads: Some(&[(0, 4), (1, 3)]),
+        taken: Some(0),
         ..ROW
     },
 ];

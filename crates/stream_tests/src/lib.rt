@@ -6,7 +6,11 @@
 #![tactic(auto)]
 
 #[cfg(test)]
+mod batches;
+#[cfg(test)]
 mod checksums;
+#[cfg(test)]
+mod distances;
 #[cfg(test)]
 mod faults;
 #[cfg(test)]

@@ -131,6 +131,42 @@ const ROWS: [Row<'static>; 8] = [
     },
 ];
 
+// Of which reads the method hears beside a block that another backend reads.
+const JOINS: [Row<'static>; 2] = [
+    // The read of block 5 is begun while block 0 is still to be awaited, so it is not this thread's.
+    Row {
+        name: "a run is started where another backend reads the next block",
+        case: Case {
+            blocks: 6,
+            settings: FULL,
+            other: Some(NONE),
+            list: Blocks::These(&[(5, 0), (0, 0)]),
+            ..CASE
+        },
+        pages: 2,
+        reads: Some(&[(5, 1), (0, 1)]),
+        taken: Some(1),
+        heard: Some(1),
+        ..ROW
+    },
+    // The block at the front is another backend's to read, so the one read is not awaited at once.
+    Row {
+        name: "behind a join the method hears of a read",
+        case: Case {
+            blocks: 3,
+            settings: FULL,
+            other: Some(NONE),
+            list: Blocks::These(&[(0, 0), (2, 0)]),
+            ..CASE
+        },
+        pages: 2,
+        reads: Some(&[(2, 1), (0, 1)]),
+        taken: Some(1),
+        heard: Some(1),
+        ..ROW
+    },
+];
+
 // How far the stream looks ahead where it finds blocks in the pool, or others read them.
 const DISTANCES: [Row<'static>; 4] = [
     Row {
@@ -233,6 +269,11 @@ const EVERY_OTHER: [(u32, u32); 32] = [
 #[test]
 fn blocks_that_the_pool_has_or_awaits(rt: HostRuntime) -> Result<(), Fail> {
     check_rows(&rt, ROWS.as_slice())
+}
+
+#[test]
+fn reads_beside_a_join(rt: HostRuntime) -> Result<(), Fail> {
+    check_rows(&rt, JOINS.as_slice())
 }
 
 #[test]

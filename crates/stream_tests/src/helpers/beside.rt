@@ -47,7 +47,7 @@ pub(crate) fn stream_beside<W: World, E: Execute<ReadIo, W>, T: Wait>(
         rt, alloc, &others, before, pool, table, actor, runner, first,
     )?;
     let mut all = Vec::new(alloc);
-    let mut method = CountingSync { heard: 0 };
+    let mut method = CountingSync::new();
     let mut desk = Desk::open(alloc, &case.settings)?;
     let list = case.list.list(alloc)?;
     let room = actor.room();
@@ -56,6 +56,7 @@ pub(crate) fn stream_beside<W: World, E: Execute<ReadIo, W>, T: Wait>(
             all,
             taken: 0,
             heard: 0,
+            batches: 0,
         });
     }
     let blocks = Listed::new(list);
@@ -89,5 +90,6 @@ pub(crate) fn stream_beside<W: World, E: Execute<ReadIo, W>, T: Wait>(
         all,
         taken,
         heard: method.heard,
+        batches: method.batches,
     })
 }

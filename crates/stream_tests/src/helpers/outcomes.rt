@@ -96,6 +96,7 @@ pub(crate) struct Outcome {
     pub all: Vec<Answer>,
     pub taken: u64,
     pub heard: u64,
+    pub batches: u64,
     pub reads: Vec<(u32, u32)>,
     pub failed: Vec<u32>,
 }
@@ -140,7 +141,12 @@ pub(crate) fn run<R: Abort + AllocGlobal + Wait>(
     let disk = open_disk(alloc, &mut shelf, names.as_slice())?;
     let (streamed, disk) = read_all::<Brand, MemDisk, R>(rt, alloc, disk, case, calls)?;
     shelf.take_back(disk);
-    let Streamed { all, taken, heard } = streamed.ok_or("no backends")?;
+    let Streamed {
+        all,
+        taken,
+        heard,
+        batches,
+    } = streamed.ok_or("no backends")?;
     let mut reads = Vec::new(alloc);
     let mut failed = Vec::new(alloc);
     for entry in shelf.log() {
@@ -154,6 +160,7 @@ pub(crate) fn run<R: Abort + AllocGlobal + Wait>(
         all,
         taken,
         heard,
+        batches,
         reads,
         failed,
     })

@@ -24,6 +24,8 @@ pub(crate) struct Row<'a> {
     pub taken: Option<u64>,
     /// Of how many I/Os the method heard.
     pub heard: Option<u64>,
+    /// In how many batches, of one or more.
+    pub batches: Option<u64>,
 }
 
 pub(crate) const ROW: Row<'static> = Row {
@@ -35,6 +37,7 @@ pub(crate) const ROW: Row<'static> = Row {
     reads: None,
     taken: None,
     heard: None,
+    batches: None,
 };
 
 /// How often an ending is asked for.
@@ -96,6 +99,9 @@ pub(crate) fn check_rows<R: Abort + AllocGlobal + Wait>(
         }
         if let Some(heard) = row.heard {
             assert_eq!(rt; ran.heard, heard, "{name}: I/Os of which the method heard");
+        }
+        if let Some(batches) = row.batches {
+            assert_eq!(rt; ran.batches, batches, "{name}: batches");
         }
     }
     Ok(())

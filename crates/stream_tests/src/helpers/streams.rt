@@ -50,12 +50,14 @@ pub(crate) fn take_answers<W: World, E: Execute<ReadIo, W>, T: Wait>(
     Ok(())
 }
 
-/// What the calls of a stream answered, how many I/Os it took in, and of how many its method heard.
+/// What the calls of a stream answered, how many I/Os it took in, of how many its method heard, and
+/// in how many batches.
 #[derive(Drop)]
 pub(crate) struct Streamed {
     pub all: Vec<Answer>,
     pub taken: u64,
     pub heard: u64,
+    pub batches: u64,
 }
 
 /// What the calls of a stream with a desk of its own answer.
@@ -82,7 +84,7 @@ pub(crate) fn stream_over<W: World, E: Execute<ReadIo, W>, T: Wait>(
     ensures rest { HasNoOwnerTokens actor.new.known }
 {
     let mut all = Vec::new(alloc);
-    let mut method = CountingSync { heard: 0 };
+    let mut method = CountingSync::new();
     let mut desk = Desk::open(alloc, &case.settings)?;
     let room = actor.room();
     if list.len() as u64 > room {
@@ -90,6 +92,7 @@ pub(crate) fn stream_over<W: World, E: Execute<ReadIo, W>, T: Wait>(
             all,
             taken: 0,
             heard: 0,
+            batches: 0,
         });
     }
     let blocks = Listed::new(list);
@@ -110,6 +113,7 @@ pub(crate) fn stream_over<W: World, E: Execute<ReadIo, W>, T: Wait>(
         all,
         taken,
         heard: method.heard,
+        batches: method.batches,
     })
 }
 
