@@ -12,6 +12,8 @@ mod faults;
 #[cfg(test)]
 mod helpers;
 #[cfg(test)]
+mod late_workers;
+#[cfg(test)]
 mod pauses;
 #[cfg(test)]
 mod pool;
@@ -19,3 +21,5 @@ mod pool;
 mod random;
 #[cfg(test)]
 mod runs;
+#[cfg(test)]
+mod stream_by_ring;
