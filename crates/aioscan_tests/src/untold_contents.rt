@@ -2,10 +2,11 @@
 ghost use Rattle.std.specs.Prelude.{None, false};
 
 use aio_disk::{DeviceFault, Disk, MemSink, OpenFault, Shelf};
-use aioscan_cmd::{Report, aioscan};
-use aioscan_fixtures::runs::{TestOutcome, empty_lines, words_of};
+use aioscan_cmd::Report;
+use aioscan_fixtures::runs::{TestOutcome, run_shelf};
 use page_check::Page;
 use page_fixtures::pages::{EMPTY, page_of};
+use row_fixtures::listings::empty_lines;
 use std::alloc::Global;
 use std::process::Abort;
 use std::sync::Wait;
@@ -160,10 +161,9 @@ fn run_over<R: Abort + AllocGlobal + Threads + Wait + Sync>(
     line: &str,
 ) -> Result<LongRun, Fail> {
     let alloc = rt.alloc();
-    let words = words_of(alloc, line)?;
     let mut out = MemSink::make(alloc, Vec::new(alloc));
     let mut err = MemSink::make(alloc, Vec::new(alloc));
-    let report = aioscan(rt, alloc, words.as_slice(), &mut shelf, &mut out, &mut err);
+    let report = run_shelf(rt, &mut shelf, line, &mut out, &mut err)?;
     Ok(LongRun {
         report,
         out,
