@@ -1,7 +1,5 @@
-//! Runs of `aioscan` over files in memory, rows of them in text, what they show and read, and a plain
-//! lister to compare them with.
+//! Runs of `aioscan` over files in memory, rows of them in text, what they show and read.
 #![tactic(auto)]
 
-pub mod plain_lister;
 pub mod rows;
 pub mod runs;

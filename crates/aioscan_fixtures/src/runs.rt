@@ -1,43 +1,14 @@
 //! Runs of the top call over files in memory, what they show and what they read.
+use aio_disk::{Shelf, Sink};
 use aioscan_cmd::{Report, aioscan};
+use command_fixtures::words_of;
 use fault_injection::{MemShelf, MemSink};
 use page_fixtures::files::{Faults, Files, one_file, segmented_shelf};
-use page_fixtures::pages::{EMPTY, bytes_of};
 use std::alloc::{AllocError, Global};
 use std::str;
 use std::sync::Wait;
 use std::test::Fail;
 use std::thread::Threads;
-
-/// A file of so many empty pages.
-pub fn empty_file(alloc: Global, pages: usize) -> Result<Vec<u8>, AllocError> {
-    bytes_of(alloc, vec![in alloc; EMPTY; pages]?.as_slice())
-}
-
-/// The lines of empty pages of relation 0.
-pub fn empty_lines(alloc: Global, first: u32, after: u32) -> Result<String, Fail> {
-    let mut text = String::new(alloc);
-    for block in first..after {
-        writeln!(
-            text,
-            "page 0 {block} lower 24 upper 8192 special 8192 items 0"
-        )?;
-    }
-    Ok(text)
-}
-
-/// The words of a line. A word `''` is empty.
-pub fn words_of(alloc: Global, line: &str) -> Result<Vec<String>, AllocError> {
-    let mut words = Vec::new(alloc);
-    for word in line.split(' ') {
-        if word == "''" {
-            words.push(String::new(alloc))?;
-        } else if !word.is_empty() {
-            words.push(String::from_str(alloc, word)?)?;
-        }
-    }
-    Ok(words)
-}
 
 /// What a run over files in memory has left.
 #[derive(Drop)]
@@ -46,17 +17,6 @@ pub struct FinishedRun {
     pub out: MemSink,
     pub err: MemSink,
     pub shelf: MemShelf,
-}
-
-/// Two files of these names.
-pub fn two_files(
-    alloc: Global,
-    (name, file): (&str, Vec<u8>),
-    (second, other): (&str, Vec<u8>),
-) -> Result<Files, AllocError> {
-    let mut files = one_file(alloc, name, file)?;
-    files.push((String::from_str(alloc, second)?, other))?;
-    Ok(files)
 }
 
 /// The output, what is said on the error stream, and the status.
@@ -88,6 +48,19 @@ fn sink_of(alloc: Global, cuts: &[(u64, u64)]) -> Result<MemSink, AllocError> {
     Ok(MemSink::make(alloc, Vec::from_slice(alloc, cuts)?))
 }
 
+/// A run of these words over any shelf, with any output.
+pub fn run_shelf<S: Shelf, O: Sink, R: AllocGlobal + Threads + Wait + Sync>(
+    rt: &R,
+    shelf: &mut S,
+    line: &str,
+    out: &mut O,
+    err: &mut MemSink,
+) -> Result<Report, AllocError> {
+    let alloc = rt.alloc();
+    let words = words_of(alloc, line)?;
+    Ok(aioscan(rt, alloc, words.as_slice(), shelf, out, err))
+}
+
 /// A run over files in memory, whose sinks fail at these writes.
 pub fn run<R: AllocGlobal + Threads + Wait + Sync>(
     rt: &R,
@@ -110,10 +83,9 @@ pub fn run_segmented<R: AllocGlobal + Threads + Wait + Sync>(
 ) -> Result<FinishedRun, Fail> {
     let alloc = rt.alloc();
     let mut shelf = segmented_shelf(alloc, files, segment, faults)?;
-    let words = words_of(alloc, line)?;
     let mut out = sink_of(alloc, cuts.0)?;
     let mut err = sink_of(alloc, cuts.1)?;
-    let report = aioscan(rt, alloc, words.as_slice(), &mut shelf, &mut out, &mut err);
+    let report = run_shelf(rt, &mut shelf, line, &mut out, &mut err)?;
     Ok(FinishedRun {
         report,
         out,

@@ -2,11 +2,13 @@
 ghost use Rattle.std.specs.Prelude.{None};
 
 use aio_disk::{Sink, WriteFault};
-use aioscan_cmd::{Line, aioscan};
-use aioscan_fixtures::rows::{check_rows, listing_of, pages_file};
-use aioscan_fixtures::runs::{check_outcome, run, two_files, words_of};
+use aioscan_cmd::Line;
+use aioscan_fixtures::rows::check_rows;
+use aioscan_fixtures::runs::{check_outcome, run, run_shelf};
 use fault_injection::MemSink;
 use page_fixtures::files::{STEADY, one_file, shelf_of};
+use row_fixtures::files::{pages_file, two_files};
+use row_fixtures::listings::listing_of;
 use std::process::Abort;
 use std::sync::Wait;
 use std::test::Fail;
@@ -90,13 +92,12 @@ fn check_memory<R: Abort + AllocGlobal + Threads + Wait + Sync>(
     let (file, map) = (pages_file(alloc, pages)?, pages_file(alloc, "D")?);
     let mut shelf = shelf_of(alloc, two_files(alloc, ("f", file), ("m", map))?, STEADY)?;
     let line = format!(in alloc; "--method sync --backends 1 {words}")?;
-    let words = words_of(alloc, line.as_str())?;
     let mut out = FullSink {
         bytes: Vec::new(alloc),
         writes,
     };
     let mut err = MemSink::make(alloc, Vec::new(alloc));
-    let report = aioscan(rt, alloc, words.as_slice(), &mut shelf, &mut out, &mut err);
+    let report = run_shelf(rt, &mut shelf, line.as_str(), &mut out, &mut err)?;
     let text = listing_of(alloc, listed)?;
     assert_eq!(rt; out.bytes.as_slice(), text.as_bytes(), "{line}");
     assert_eq!(rt; err.bytes(), said.as_bytes(), "{line}");

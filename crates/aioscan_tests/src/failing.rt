@@ -1,7 +1,9 @@
 //! Reads that fail or are short, and what is listed before them.
 use aioscan_cmd::Outcome;
-use aioscan_fixtures::runs::{FinishedRun, empty_file, empty_lines, run_over};
+use aioscan_fixtures::runs::{FinishedRun, run_over};
 use page_fixtures::files::{Faults, STEADY};
+use row_fixtures::files::empty_file;
+use row_fixtures::listings::empty_lines;
 use std::test::Fail;
 
 /// The reads that fail, and how much the first reads give at most.

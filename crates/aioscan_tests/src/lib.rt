@@ -1,4 +1,4 @@
-//! Worked rows of the whole program: tests of `aioscan`, and no code besides.
+//! What a run lists and says: tests of `aioscan`, and no code besides.
 //!
 //! A row is one call of `aioscan` over disks in memory. What it writes to both streams, its status
 //! and, in some rows, its reads and counts are compared with what is to come. The rows know of
@@ -6,30 +6,16 @@
 #![tactic(auto)]
 
 #[cfg(test)]
-mod blocked_reads;
-#[cfg(test)]
 mod checksums;
 #[cfg(test)]
 mod cut_outputs;
 #[cfg(test)]
 mod failing;
 #[cfg(test)]
-mod io_counts;
-#[cfg(test)]
-mod map_words;
-#[cfg(test)]
 mod one_file_runs;
 #[cfg(test)]
-mod reads;
-#[cfg(test)]
-mod refused_words;
-#[cfg(test)]
 mod segments;
-#[cfg(test)]
-mod shares_out;
 #[cfg(test)]
 mod statuses;
 #[cfg(test)]
 mod untold_contents;
-#[cfg(test)]
-mod words;

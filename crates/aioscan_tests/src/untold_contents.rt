@@ -2,11 +2,12 @@
 ghost use Rattle.std.specs.Prelude.{None, false};
 
 use aio_disk::{DeviceFault, Disk, OpenFault, Shelf};
-use aioscan_cmd::{Report, aioscan};
-use aioscan_fixtures::runs::{TestOutcome, empty_lines, words_of};
+use aioscan_cmd::Report;
+use aioscan_fixtures::runs::{TestOutcome, run_shelf};
 use fault_injection::MemSink;
 use page_check::Page;
 use page_fixtures::pages::{EMPTY, page_of};
+use row_fixtures::listings::empty_lines;
 use std::alloc::Global;
 use std::process::Abort;
 use std::sync::Wait;
@@ -161,10 +162,9 @@ fn run_over<R: Abort + AllocGlobal + Threads + Wait + Sync>(
     line: &str,
 ) -> Result<LongRun, Fail> {
     let alloc = rt.alloc();
-    let words = words_of(alloc, line)?;
     let mut out = MemSink::make(alloc, Vec::new(alloc));
     let mut err = MemSink::make(alloc, Vec::new(alloc));
-    let report = aioscan(rt, alloc, words.as_slice(), &mut shelf, &mut out, &mut err);
+    let report = run_shelf(rt, &mut shelf, line, &mut out, &mut err)?;
     Ok(LongRun {
         report,
         out,

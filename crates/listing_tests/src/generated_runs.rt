@@ -1,6 +1,7 @@
 //! Generated pages.
-use aioscan_fixtures::runs::{TestOutcome, check_over, empty_file};
+use aioscan_fixtures::runs::{TestOutcome, check_over};
 use page_fixtures::files::STEADY;
+use row_fixtures::files::empty_file;
 use std::process::Abort;
 use std::sync::Wait;
 use std::test::Fail;

@@ -1,9 +1,11 @@
 //! Whole runs by a visibility map: each method, damaged pages, tuples, and what fails.
 use aioscan_cmd::Line;
-use aioscan_fixtures::rows::{check_rows, listing_of, pages_file};
-use aioscan_fixtures::runs::{check_outcome, run, two_files};
+use aioscan_fixtures::rows::check_rows;
+use aioscan_fixtures::runs::{check_outcome, run};
 use page_fixtures::files::STEADY;
 use page_fixtures::pages::{Parts, bytes_of};
+use row_fixtures::files::{pages_file, two_files};
+use row_fixtures::listings::listing_of;
 use std::process::Abort;
 use std::sync::Wait;
 use std::test::Fail;

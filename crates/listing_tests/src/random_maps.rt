@@ -2,9 +2,9 @@
 use crate::map_runs::HEADER;
 use crate::random_requests::{expect_outcome, line_of, pick, random_block, random_file};
 use crate::settings::random_settings;
-use aioscan_fixtures::plain_lister::{RandomRequest, list_page, reference_run};
 use page_fixtures::checksums::page_as;
 use page_fixtures::pages::{DAMAGED, Parts, ZEROS, bytes_of};
+use row_fixtures::plain_lister::{RandomRequest, list_page, reference_run};
 use std::alloc::{AllocError, Global};
 use std::process::Abort;
 use std::sync::Wait;

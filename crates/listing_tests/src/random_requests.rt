@@ -2,12 +2,13 @@
 ghost use Rattle.std.specs.Prelude.{◌<◌};
 
 use crate::settings::random_settings;
-use aioscan_fixtures::plain_lister::{RandomRequest, reference_run};
-use aioscan_fixtures::runs::{TestOutcome, check_outcome, run, two_files};
+use aioscan_fixtures::runs::{TestOutcome, check_outcome, run};
 use page_check::Page;
 use page_fixtures::checksums::{EMPTY_SUMS, plain_checksum, with_checksum};
 use page_fixtures::files::STEADY;
 use page_fixtures::pages::{DAMAGED, EMPTY, Parts, ZEROS, bytes_of, page_of};
+use row_fixtures::files::two_files;
+use row_fixtures::plain_lister::{RandomRequest, reference_run};
 use std::alloc::{AllocError, Global};
 use std::process::Abort;
 use std::sync::Wait;

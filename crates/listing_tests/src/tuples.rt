@@ -1,7 +1,8 @@
 //! Listings with the headers of tuples and their update chains.
-use aioscan_fixtures::runs::{TestOutcome, check_outcome, run, two_files};
+use aioscan_fixtures::runs::{TestOutcome, check_outcome, run};
 use page_fixtures::files::STEADY;
 use page_fixtures::pages::{DAMAGED, EMPTY, Parts, ZEROS, bytes_of};
+use row_fixtures::files::two_files;
 use std::process::Abort;
 use std::slice::from_ref;
 use std::sync::Wait;

@@ -1,9 +1,11 @@
 //! Invalid pages that are listed as zeros, with a warning each.
 use crate::random_requests::{check_damaged_files, check_requests};
 use aioscan_cmd::Line;
-use aioscan_fixtures::rows::{check_rows, listing_of, pages_file};
+use aioscan_fixtures::rows::check_rows;
 use aioscan_fixtures::runs::{check_outcome, check_over, run};
 use page_fixtures::files::{STEADY, one_file};
+use row_fixtures::files::pages_file;
+use row_fixtures::listings::listing_of;
 use std::test::Fail;
 
 const ROWS: [&str; 5] = [

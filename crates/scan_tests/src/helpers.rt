@@ -4,4 +4,3 @@ pub(crate) mod files;
 pub(crate) mod map_rounds;
 pub(crate) mod opening;
 pub(crate) mod rounds;
-pub(crate) mod streams;

@@ -11,15 +11,11 @@ mod faults;
 #[cfg(test)]
 mod helpers;
 #[cfg(test)]
-mod late_workers;
-#[cfg(test)]
 mod listings;
 #[cfg(test)]
 mod maps;
 #[cfg(test)]
 mod rings;
-#[cfg(test)]
-mod stream_by_ring;
 #[cfg(test)]
 mod tuples;
 #[cfg(test)]

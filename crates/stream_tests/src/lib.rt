@@ -16,6 +16,8 @@ mod faults;
 #[cfg(test)]
 mod helpers;
 #[cfg(test)]
+mod late_workers;
+#[cfg(test)]
 mod pauses;
 #[cfg(test)]
 mod pool;
@@ -23,3 +25,5 @@ mod pool;
 mod random;
 #[cfg(test)]
 mod runs;
+#[cfg(test)]
+mod stream_by_ring;

@@ -7,8 +7,7 @@ ghost use Rattle.aio_handle.specs.EndStates.{HasNoOwnerTokens};
 ghost use Rattle.aio_handle.specs.ContractViews.{AreNewActors, IsActorOf};
 ghost use Rattle.method_worker.specs.QueueViews.{IsSeatOf};
 
-use crate::helpers::files::pages_shelf;
-use crate::helpers::streams::{NotedBlock, pages_of, two_seats};
+use crate::helpers::listed_streams::{NotedBlock, numbered_shelf, pages_of, two_seats};
 use aio_callback::ReadIo;
 use aio_disk::{Disk, Shelf};
 use aio_handle::{Actor, Table};
@@ -201,7 +200,7 @@ fn list_over<S: Shelf, T: Wait>(
 #[test]
 fn a_backend_executes_what_no_worker_takes(rt: HostRuntime) -> Result<(), Fail> {
     let alloc = rt.alloc();
-    let mut shelf = pages_shelf(alloc, 100, None, &[])?;
+    let mut shelf = numbered_shelf(alloc, 100)?;
     let mut names = Vec::new(alloc);
     names.push(String::from_str(alloc, "f")?)?;
     let (first, second) = (blocks_of(alloc, 0, 64)?, blocks_of(alloc, 64, 100)?);

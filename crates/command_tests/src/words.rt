@@ -1,6 +1,6 @@
 //! Words that are a command, and what they ask for.
-use aioscan_cmd::{Command, Refusal, read_command};
-use aioscan_fixtures::runs::words_of;
+use command_fixtures::words_of;
+use command_line::{Command, Refusal, read_command};
 use scan_settings::ScanSettings;
 use std::alloc::Global;
 use std::process::Abort;

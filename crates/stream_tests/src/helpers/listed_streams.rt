@@ -11,11 +11,15 @@ use aio_callback::ReadIo;
 use aio_handle::{Actor, Execute, Table};
 use block_source::Listed;
 use buf_pool::Pool;
+use fault_injection::MemShelf;
 use method_worker::{QueueSeat, SubmitQueue};
 use page_check::{PageRules, World};
+use page_fixtures::files::{STEADY, one_file, shelf_of};
+use page_fixtures::pages::numbered_pages;
 use read_stream::{Desk, Next, ReadStream, Settings};
 use std::alloc::{AllocError, Global};
 use std::sync::Wait;
+use std::test::Fail;
 
 const SETTINGS: Settings = Settings {
     combine: 16,
@@ -32,6 +36,12 @@ const SETTINGS: Settings = Settings {
 
 /// A block, and what is noted beside it.
 pub(crate) type NotedBlock = (u32, u32);
+
+/// A shelf of a file `f` of so many empty pages.
+pub(crate) fn numbered_shelf(alloc: Global, blocks: u32) -> Result<MemShelf, Fail> {
+    let file = one_file(alloc, "f", numbered_pages(alloc, blocks, None)?)?;
+    shelf_of(alloc, file, STEADY)
+}
 
 // The pages that so many calls answer.
 fn take_pages<W: World, M: Method<ReadIo, W>, E: Execute<ReadIo, W>, T: Wait>(

@@ -1,7 +1,7 @@
 //! Words that name a map.
 use crate::words::joined;
-use aioscan_cmd::read_command;
-use aioscan_fixtures::runs::words_of;
+use command_fixtures::words_of;
+use command_line::read_command;
 use std::test::Fail;
 use vis_map::Skip;
 

@@ -1,5 +1,5 @@
 use Rattle.std.proofs.Common.{Some, length}
-use Rattle.scan_tests.proofs.stream_by_ring.pages_and_reads.Given as goal
+use Rattle.stream_tests.proofs.stream_by_ring.pages_and_reads.Given as goal
 
 abbrev pub ghosts-pages_by_ring : goal.ghosts-pages_by_ring
 ghosts-pages_by_ring g a = record {

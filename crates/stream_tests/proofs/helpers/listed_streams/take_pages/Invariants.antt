@@ -1,7 +1,7 @@
 use Rattle.std.proofs.Common.{◌≡◌}
 use Rattle.aio_handle.specs.ContractViews.{IsActorOf, IsSameActor}
 use Rattle.read_stream.specs.StreamState.{IsOpenFor}
-use Rattle.scan_tests.proofs.helpers.streams.take_pages.Given as goal
+use Rattle.stream_tests.proofs.helpers.listed_streams.take_pages.Given as goal
 
 abbrev pub invariant-loop : goal.invariant-loop
 invariant-loop g l = record {

@@ -1,5 +1,5 @@
 use Rattle.std.proofs.Common.{◌≡◌, length, ap, arith}
-use Rattle.scan_tests.proofs.helpers.streams.pages_of.Goals as goal
+use Rattle.stream_tests.proofs.helpers.listed_streams.pages_of.Goals as goal
 
 pub open-stream-requires-clause-room : goal.open-stream-requires-clause-room
 open-stream-requires-clause-room g c =

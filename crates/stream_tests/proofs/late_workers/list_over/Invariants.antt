@@ -1,4 +1,4 @@
-use Rattle.scan_tests.proofs.late_workers.list_over.Given as goal
+use Rattle.stream_tests.proofs.late_workers.list_over.Given as goal
 
 abbrev pub ghosts-list_twice : goal.ghosts-list_twice
 ghosts-list_twice g a = record {

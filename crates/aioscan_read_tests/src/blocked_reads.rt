@@ -1,8 +1,8 @@
 //! Reads that wait for each other at disks of one shelf.
-use aioscan_cmd::{Report, aioscan};
-use aioscan_fixtures::runs::{TestOutcome, words_of};
+use aioscan_cmd::Report;
+use aioscan_fixtures::runs::{TestOutcome, run_shelf};
 use blocking_disk::{BlockingShelf, ReadBarrier};
-use fault_injection::MemSink;
+use fault_injection::{MemSink, MemSink};
 use std::alloc::Global;
 use std::process::Abort;
 use std::sync::Wait;
@@ -32,10 +32,9 @@ fn expect<R: Abort + AllocGlobal + Threads + Wait + Sync>(
     wanted: TestOutcome<'_>,
 ) -> Result<Report, Fail> {
     let alloc = rt.alloc();
-    let words = words_of(alloc, line)?;
     let mut out = MemSink::make(alloc, Vec::new(alloc));
     let mut err = MemSink::make(alloc, Vec::new(alloc));
-    let report = aioscan(rt, alloc, words.as_slice(), &mut shelf, &mut out, &mut err);
+    let report = run_shelf(rt, &mut shelf, line, &mut out, &mut err)?;
     assert_eq!(rt; err.bytes(), wanted.1.as_bytes(), "{name}");
     assert_eq!(rt; out.bytes(), wanted.0.as_bytes(), "{name}");
     assert_eq!(rt; report.status, wanted.2, "{name}");

@@ -5,8 +5,7 @@ ghost use Rattle.aio_handle.specs.EndStates.{HasNoOwnerTokens};
 ghost use Rattle.aio_handle.specs.ContractViews.{AreNewActors, IsActorOf};
 ghost use Rattle.method_worker.specs.QueueViews.{IsSeatOf};
 
-use crate::helpers::files::{first_blocks_read, pages_shelf};
-use crate::helpers::streams::{NotedBlock, pages_of, two_seats};
+use crate::helpers::listed_streams::{NotedBlock, numbered_shelf, pages_of, two_seats};
 use aio_callback::ReadIo;
 use aio_disk::Disk;
 use aio_handle::{Actor, Table};
@@ -80,18 +79,22 @@ fn pages_by_ring<W: World, D: Disk, T: Wait>(
     Ok((pages, ring.into_disk()))
 }
 
-// The pages of a list of a file of 5 blocks, and the blocks that were read.
+// The pages of a list of a file of 5 blocks, and the first blocks of the reads.
 fn pages_and_reads<R: Abort + AllocGlobal + Wait>(
     rt: &R,
     list: Vec<NotedBlock>,
 ) -> Result<(Vec<NotedBlock>, Vec<u32>), Fail> {
-    let mut shelf = pages_shelf(rt.alloc(), 5, None, &[])?;
+    let mut shelf = numbered_shelf(rt.alloc(), 5)?;
     let mut names = Vec::new(rt.alloc());
     names.push(String::from_str(rt.alloc(), "f")?)?;
     let disk = shelf.open(names.as_slice()).ok().ok_or("no disk")?;
     let (pages, disk) = pages_by_ring::<Brand, MemDisk, R>(rt, rt.alloc(), disk, list)?;
     shelf.take_back(disk);
-    Ok((pages, first_blocks_read(rt.alloc(), &shelf, 0)?))
+    let mut blocks = Vec::new(rt.alloc());
+    for entry in shelf.log() {
+        blocks.push(entry.first)?;
+    }
+    Ok((pages, blocks))
 }
 
 // A block twice in the list is read once; blocks that do not follow one another are not combined.
