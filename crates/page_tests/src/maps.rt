@@ -71,6 +71,18 @@ fn blocks_of_two_pages(rt: HostRuntime) -> Result<(), Fail> {
     Ok(())
 }
 
+// A map has 65 pages at most.
+#[test]
+fn maps_of_several_pages_are_opened(rt: HostRuntime) -> Result<(), Fail> {
+    for pages in [3, 4, 64, 65] {
+        match VisMap::open(rt.alloc(), pages) {
+            Ok(map) => assert_eq!(rt; map.pages(), pages, "{pages} pages"),
+            Err(_) => panic!(rt; "{pages} pages: no memory"),
+        }
+    }
+    Ok(())
+}
+
 #[test]
 fn pages_that_are_needed(rt: HostRuntime) -> Result<(), Fail> {
     let rows: [(u32, Option<u32>, u32); 7] = [
