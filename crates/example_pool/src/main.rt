@@ -4,10 +4,10 @@
 ghost use Rattle.std.specs.Prelude.{◌≡◌, ◌<◌, None};
 ghost use Rattle.page_check.specs.Verdict.{IsValid};
 
-use read_callbacks::Places;
 use aio_word::WaitRef;
 use buf_pool::{Found, Pin, Pool, Tag};
 use page_check::{Page, Verdict, World, check};
+use read_callbacks::Places;
 use std::io;
 use std::marker::Brand;
 use std::sync::Wait;

@@ -1,10 +1,10 @@
 //! Pages that show which block they are of, and how they come into a pool.
 ghost use Rattle.std.specs.Prelude.{◌≡◌, ◌<◌, None};
 
-use read_callbacks::Places;
 use aio_word::WaitRef;
 use buf_pool::{Begun, Found, Pin, Pool, Tag};
 use page_check::{Page, Verdict, World, check, check_as, header};
+use read_callbacks::Places;
 use std::alloc::{AllocError, Global};
 use std::sync::Wait;
 

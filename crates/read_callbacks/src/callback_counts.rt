@@ -20,7 +20,9 @@ pub fn run_local(ids: &[CallbackId], value: AioResult, counts: &mut Counts)
     if let [id, others @ ..] = ids {
         if matches!(id, CallbackId::Count) {
             counts.ios = counts.ios.saturating_add(1);
-            counts.blocks = counts.blocks.saturating_add(page_count(value.result) as u64);
+            counts.blocks = counts
+                .blocks
+                .saturating_add(page_count(value.result) as u64);
         }
         run_local(others, value, counts);
     }
