@@ -1,6 +1,4 @@
 use Rattle.std.proofs.Common.{◌∙◌, sym, ap, subst, arith, length}
-use Rattle.std.proofs.lemmas.List.FromFn.{length-map-range_with_len}
-use Rattle.block_source.specs.BlocksLeft.{block_alone}
 use Rattle.read_stream.specs.Desks.{IsFreeDesk, desk_settings}
 use Rattle.read_stream.specs.StreamViews.{StreamView}
 use Rattle.example_stream.proofs.items.count_items.Goals as goal
@@ -8,15 +6,13 @@ use Rattle.example_stream.proofs.items.count_items.Goals as goal
 pub open-stream-requires-clause-room : goal.open-stream-requires-clause-room
 open-stream-requires-clause-room g c =
     let (room, is, enough) = c.requires.room in
-    let many = ap length c.new.ensures
-    ∙ length-map-range_with_len block_alone 0 c.args.blocks in
+    let many = c.new.ensures.count in
     (room, is, omega arith)
 
 pub count_all-counted-requires-clause-few : goal.count_all-counted-requires-clause-few
 count_all-counted-requires-clause-few g c =
     let blocks = ap (λ (z : StreamView (Unit {0})). length z.blocks) c.open-stream.ensures.stream in
-    let many = ap length c.new.ensures
-    ∙ length-map-range_with_len block_alone 0 c.args.blocks in
+    let many = c.new.ensures.count in
     omega arith
 
 pub returns-clause-desk : goal.returns-clause-desk
