@@ -2,7 +2,7 @@
 use aioscan_cmd::Report;
 use aioscan_fixtures::runs::{TestOutcome, run_shelf};
 use blocking_disk::{BlockingShelf, ReadBarrier};
-use fault_injection::{MemSink, MemSink};
+use fault_injection::MemSink;
 use std::alloc::Global;
 use std::process::Abort;
 use std::sync::Wait;
