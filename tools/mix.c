@@ -2,9 +2,9 @@
 // tools/bench builds and runs it.
 //
 // A page has 0 to 291 line pointers, 120 on average: wide, usual and narrow rows. Of 100 pages one
-// is new and three are empty. Of 100 line pointers four are dead, three redirect and three are
-// unused; of 100 tuples six were updated into the next one on their page. Each page that is not new
-// has its checksum.
+// is new and three are empty. Of 100 line pointers four are dead, three redirect to a normal one
+// before them, and three are unused; of 100 tuples six were updated into the next one on their
+// page. Each page that is not new has its checksum, and none has a fault.
 //
 // usage: mix PAGES >FILE
 #include <stdint.h>
@@ -54,11 +54,11 @@ static void put_page(uint8_t *page, uint32_t block) {
   if (below(100) == 0) return;
   uint32_t count = item_count(), offset = PAGE;
   uint32_t most = count ? (PAGE - HEADER - 4 * count) / count / 8 * 8 : 0;
-  uint32_t xmin = 1000000 + 500 * (block % 5000);
+  uint32_t xmin = 1000000 + 500 * (block % 5000), normal = 0;
   for (uint32_t item = 1; item <= count; item++) {
     uint32_t kind = below(100), pointer;
     if (kind < 4) pointer = 3u << 15;
-    else if (kind < 7) pointer = 2u << 15 | (1 + below(count));
+    else if (kind < 7 && normal) pointer = 2u << 15 | normal;
     else if (kind < 10) pointer = 0;
     else {
       uint32_t length = most - below(most > 32 ? 8 : 1);
@@ -68,6 +68,7 @@ static void put_page(uint8_t *page, uint32_t block) {
       pointer = length << 17 | 1u << 15 | offset;
       put_tuple(page + offset, length, block, item, xmin, is_updated);
       xmin += is_updated ? 1 : 0;
+      normal = item;
     }
     put32(page + HEADER + 4 * (item - 1), pointer);
   }

@@ -5,6 +5,7 @@
 // usage: scan BLOCKS FILE..              line pointers; BLOCKS is how many one read gives at most
 //        scan --tuples BLOCKS FILE..     headers of tuples and update chains too
 //        scan --checksums BLOCKS FILE..  line pointers; a page is valid only with its checksum too
+//        scan --reads BLOCKS FILE..      nothing: the pages are read, and not looked at
 #include <fcntl.h>
 #include <stdint.h>
 #include <stdlib.h>
@@ -175,7 +176,9 @@ static void put_page(uint32_t relation, uint32_t block, const uint8_t *page, int
 int main(int count, char **words) {
   int with_tuples = count > 1 && !strcmp(words[1], "--tuples");
   int with_checksums = count > 1 && !strcmp(words[1], "--checksums");
-  words += with_tuples || with_checksums, count -= with_tuples || with_checksums;
+  int only_reads = count > 1 && !strcmp(words[1], "--reads");
+  int has_option = with_tuples || with_checksums || only_reads;
+  words += has_option, count -= has_option;
   if (count < 2) return 2;
   size_t read_size = PAGE * strtoul(words[1], NULL, 10);
   make_numbers();
@@ -185,7 +188,7 @@ int main(int count, char **words) {
     if (file < 0) return 3;
     off_t at = 0;
     for (ssize_t got; (got = pread(file, bytes, read_size, at)) >= PAGE;) {
-      for (int page = 0; page < got / PAGE; page++) {
+      for (int page = 0; page < got / PAGE && !only_reads; page++) {
         put_page(relation, at / PAGE + page, bytes + page * PAGE, with_tuples, with_checksums);
         if (end - text >= FULL) write_out();
       }

@@ -74,6 +74,12 @@ def read_control(data):
     return by_controldata(data) or by_its_bytes(raw)
 
 
+def limits(control):
+    """The program's words for what no page has after a clean shutdown: an LSN past the last checkpoint,
+    and a transaction that has not begun."""
+    return ["--end-lsn", control.checkpoint, "--next-xid", re.split("[:/]", control.next_transaction)[-1]]
+
+
 def major_version(data):
     """The number in PG_VERSION, or 0."""
     try:

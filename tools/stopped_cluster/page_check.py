@@ -1,4 +1,4 @@
-"""Whether a page is valid, by PostgreSQL's rules: for a second look at a page that the program named."""
+"""Whether a page is valid, by PostgreSQL's rules: for the catalogs and maps that are read here."""
 import struct
 
 PAGE, SEGMENT = 8192, 131072

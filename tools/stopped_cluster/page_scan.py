@@ -1,7 +1,8 @@
-"""Runs aioscan over relation files, and tells each page that it finds damaged."""
-import os, re, resource, subprocess, tempfile
+"""Runs `aioscan --check` over relation files, and tells each fault that it finds."""
+import collections, os, re, resource, subprocess, tempfile
 
-from stopped_cluster.page_check import PAGE, SEGMENT, checksum_of, is_sane, stored_checksum
+from stopped_cluster.check_output import read_output
+from stopped_cluster.page_check import PAGE, SEGMENT
 from stopped_cluster.relation_files import segment_name
 
 # The program takes so many FILE words, and so many segments of a relation.
@@ -9,34 +10,41 @@ MOST_WORDS, MOST_SEGMENTS = 1024, 16
 OTHER_DESCRIPTORS = 32
 # How often progress is shown, in seconds.
 EVERY = 0.5
+# Statuses of a run that has read all, and of one that could not.
+ALL_READ, PART_READ = (0, 1), (3, 5, 6, 7)
+
+# line: the last one of its error stream.
+Run = collections.namedtuple("Run", "status whole faults line")
 
 
 class Scan:
-    """What all runs over a cluster share. Each of so many backends, and one worker more, opens each file."""
+    """What all runs over a cluster share. Each of so many backends, and one worker more, opens each file.
+    limits: the program's words for the LSNs and transactions that there may be."""
 
-    def __init__(self, data, program, report, checksums, jobs):
-        self.data, self.program, self.report, self.checksums = data, program, report, checksums
+    def __init__(self, data, program, report, checksums, limits, jobs):
+        self.data, self.program, self.report = data, program, report
+        self.checksums, self.limits = checksums, limits
         self.jobs, self.disks = jobs, 2 * jobs + 1
         self.done = self.total = 0
 
-    def words(self, checksums):
+    def words(self, numbered):
         """The program's words of every run: options that hold for all files belong here."""
-        words = [self.program, "--zero-damaged", "--backends", str(self.jobs), "--workers", str(self.jobs + 1)]
-        return words + ["--checksums"] * checksums
+        words = [self.program, "--check", "--backends", str(self.jobs), "--workers", str(self.jobs + 1)]
+        return words + self.limits + ["--checksums"] * (self.checksums and numbered)
 
     def look_at(self, files):
-        """Scans all files. Where checksums are verified, those of each segment number by themselves."""
+        """Scans all files, those of each segment number by themselves."""
         self.total = sum(it.size for it in files)
-        numbers = range(MOST_SEGMENTS if self.checksums else 0)
-        for number in numbers:
+        for number in range(MOST_SEGMENTS):
             self.look_at_batches([it for it in files if it.number == number], number, True)
-        rest = [it for it in files if it.number not in numbers]
+        rest = [it for it in files if it.number >= MOST_SEGMENTS]
         self.look_at_batches(rest, 0, False)
         self.report.clear_progress()
-        for it in rest if self.checksums else []:
-            self.report.tell(f"{it.path}: headers alone, since it lies behind block {MOST_SEGMENTS * SEGMENT - 1}")
+        for it in rest:
+            self.report.tell(f"{it.path}: neither checksums nor misplaced pages are looked for, "
+                             f"since it lies behind block {MOST_SEGMENTS * SEGMENT - 1}")
 
-    def look_at_batches(self, files, zeros, checksums):
+    def look_at_batches(self, files, zeros, numbered):
         """Scans so many files at a time as may be open together, with the segments before each."""
         limit = resource.getrlimit(resource.RLIMIT_NOFILE)[0]
         room = MOST_WORDS * (zeros + 1) if limit == resource.RLIM_INFINITY else (limit - OTHER_DESCRIPTORS) // self.disks
@@ -44,7 +52,7 @@ class Scan:
         for begin in range(0, len(files), most):
             part = files[begin : begin + most]
             with tempfile.TemporaryDirectory() as links:
-                Batch(self, link_all(self.data, links, part, zeros), zeros, checksums).scan()
+                Batch(self, link_all(self.data, links, part, zeros), zeros, numbered).scan()
             self.done += sum(it.size for it in part)
 
 
@@ -68,97 +76,73 @@ def link_all(data, links, files, zeros):
 
 class Batch:
     """Files that the program looks at in one run: the word, the path below the data folder and the
-    number of the segment of each. So many segments of zeros, which are not read, stand before each:
-    then its blocks have their own numbers, which count in checksums."""
+    number of the segment of each. So many segments of zeros, which are not read, stand before each.
+    numbered: the blocks then have their own numbers, which checksums and tuples hold."""
 
-    def __init__(self, scan, files, zeros, checksums):
-        self.over, self.files, self.zeros, self.checksums = scan, files, zeros, checksums
+    def __init__(self, scan, files, zeros, numbered):
+        self.over, self.files, self.zeros, self.numbered = scan, files, zeros, numbered
         self.report = scan.report
 
     def part(self, begin, end):
-        return Batch(self.over, self.files[begin:end], self.zeros, self.checksums)
+        return Batch(self.over, self.files[begin:end], self.zeros, self.numbered)
 
     def blocks_before(self, number):
         """How many blocks of its relation stand before those that the program counts in a segment."""
         return (number - self.zeros) * SEGMENT
 
-    def run(self, options=()):
-        """Runs aioscan over these files. Gives its status, the damaged pages as (file, segment, block),
-        and the line that it ended with."""
-        words = [*self.over.words(self.checksums), *options, "--", *(word for word, _, _ in self.files)]
-        quiet = subprocess.DEVNULL
-        child = subprocess.Popen(words, cwd=self.over.data, stdin=quiet, stdout=quiet, stderr=subprocess.PIPE)
-        damaged, line = [], ""
-        for text in self.wait_for(child).decode("utf-8", "replace").splitlines():
-            match = re.fullmatch(r"zeroed page (\d+) (\d+)", text)
-            if match:
-                _, path, number = self.files[int(match[1])]
-                damaged.append((path, number, self.blocks_before(number) + int(match[2])))
-            else:
-                line = text
-        return child.returncode, damaged, line
+    def run(self, options):
+        """Runs aioscan over these files."""
+        words = [*self.over.words(self.numbered), *options, "--", *(word for word, _, _ in self.files)]
+        child = subprocess.Popen(words, cwd=self.over.data, stdin=subprocess.DEVNULL, stdout=subprocess.PIPE,
+                                 stderr=subprocess.PIPE)
+        out, err = (it.decode("utf-8", "replace") for it in self.wait_for(child))
+        faults, all_told = read_output(out)
+        line = err.splitlines()[-1] if err else "it has printed no sums"
+        return Run(child.returncode, all_told and child.returncode in ALL_READ, faults, line)
 
     def wait_for(self, child):
-        """What it writes on its error stream. Meanwhile progress is shown, by what it has read."""
+        """What it writes on both streams. Meanwhile progress is shown, by what it has read."""
         while True:
             try:
-                return child.communicate(timeout=EVERY if self.report.shows_progress else None)[1]
+                return child.communicate(timeout=EVERY if self.report.shows_progress else None)
             except subprocess.TimeoutExpired:
                 self.report.progress(self.over.done + bytes_read_by(child.pid), self.over.total)
 
-    def cause_of(self, path, number, block):
-        """What is wrong with a page that the program has named: a word, a text, and facts for JSON."""
-        if not self.checksums:
-            return "header", "damaged page header", {}
-        try:
-            with open(f"{self.over.data}/{path}", "rb") as file:
-                file.seek((block - number * SEGMENT) * PAGE)
-                page = file.read(PAGE)
-        except OSError as error:
-            return "second_look", f"damaged, and {error.strerror} by a second look", {}
-        if len(page) < PAGE:
-            return "second_look", "damaged, and not there by a second look", {}
-        computed, stored = checksum_of(page, block), stored_checksum(page)
-        if not any(page) or (is_sane(page) and computed == stored):
-            return "second_look", "damaged, and valid by a second look", {}
-        if not is_sane(page):
-            return "header", "damaged page header", {}
-        return "checksum", f"checksum {computed} expected {stored}", {"computed": computed, "expected": stored}
-
-    def tell(self, damaged):
-        for path, number, block in damaged:
-            kind, text, facts = self.cause_of(path, number, block)
-            self.report.damage(path, block, kind, text, **facts)
+    def tell(self, faults):
+        for it in faults:
+            _, path, number = self.files[it.file]
+            if self.numbered or it.kind != "misplaced":
+                self.report.damage(path, self.blocks_before(number) + it.block, it.kind, it.text, **it.facts)
 
     def first(self):
         return ["--from", str(self.zeros * SEGMENT)] if self.zeros else []
 
     def scan(self):
-        """Tells the damaged pages of these files. Where a run fails, each half is run by itself."""
-        status, damaged, line = self.run(self.first())
+        """Tells the faults of these files. Where a run fails, each half is run by itself."""
+        run = self.run(self.first())
         middle = len(self.files) // 2
-        if status == 0:
-            self.tell(damaged)
-        elif status not in (3, 5, 6, 7):
-            self.report.cannot_read(f"{self.over.program} ended with status {status}: {line}")
+        if run.whole:
+            self.tell(run.faults)
+        elif run.status not in PART_READ:
+            self.report.cannot_read(f"{self.over.program} ended with status {run.status}: {run.line}")
         elif middle:
             self.part(0, middle).scan()
             self.part(middle, None).scan()
         else:
-            self.scan_past_faults(status, damaged, line)
+            self.scan_past_unread(run)
 
-    def scan_past_faults(self, status, damaged, line):
+    def scan_past_unread(self, run):
         """Goes on behind each block of this one file that could not be read."""
         [(_, path, number)] = self.files
-        self.tell(damaged)
-        while status != 0:
-            fault = re.fullmatch(r"unread page 0 (\d+)", line)
-            if not fault:
-                return self.report.cannot_read(f"{path}: {line}")
-            block = int(fault[1])
+        self.tell(run.faults)
+        while not run.whole:
+            unread = re.fullmatch(r"unread page 0 (\d+)", run.line)
+            if not unread:
+                return self.report.cannot_read(f"{path}: {run.line}")
+            block = int(unread[1])
             self.report.cannot_read(f"{path} block {self.blocks_before(number) + block}: could not be read")
-            status, damaged, line = self.run(["--combine", "1", "--from", str(block + 1)])
-            self.tell(damaged)
+            run = self.run(["--combine", "1", "--from", str(block + 1)])
+            self.tell(run.faults)
 
 
 def bytes_read_by(pid):

@@ -1,5 +1,5 @@
 """Damage to standard output, everything else to the error stream, and how much there was of each."""
-import json, re, sys
+import collections, json, re, sys
 
 from stopped_cluster.relation_files import SEGMENT_FILE
 
@@ -12,13 +12,14 @@ def relation_of(path):
 
 
 class Report:
-    """What is told of a run. name_of gives the name of a relation's file, or nothing."""
+    """What is told of a run. name_of gives the name of a relation's file, or nothing. Of each relation
+    by_relation counts the damages, and blocks the blocks that have some. place: that of the last one."""
 
     def __init__(self, as_json=False, quiet=False):
         self.as_json, self.quiet = as_json, quiet
         self.name_of = lambda path: None
         self.damages = self.unread = 0
-        self.by_relation = {}
+        self.by_relation, self.blocks, self.place = collections.Counter(), collections.Counter(), None
         self.shows_progress = not quiet and sys.stderr.isatty()
         sys.stdout.reconfigure(errors="backslashreplace")
         sys.stderr.reconfigure(errors="backslashreplace")
@@ -28,7 +29,9 @@ class Report:
         relation = relation_of(path)
         name = self.name_of(relation)
         self.damages += 1
-        self.by_relation[relation] = self.by_relation.get(relation, 0) + 1
+        self.by_relation[relation] += 1
+        self.blocks[relation] += block is not None and self.place != (path, block)
+        self.place = path, block
         self.clear_progress()
         if self.as_json:
             line = {"file": path, "block": block, **fields_of(name), "damage": kind, "text": text, **facts}
@@ -64,13 +67,19 @@ class Report:
     def sums(self, files):
         """The last lines: the damages of each relation, and how many there are of all."""
         for relation, count in self.by_relation.items():
-            self.tell(f"{relation}{in_brackets(self.name_of(relation))}: {count} damage{'s' * (count > 1)}")
+            where = f" in {some(self.blocks[relation], 'block')}" if self.blocks[relation] else ""
+            self.tell(f"{relation}{in_brackets(self.name_of(relation))}: {some(count, 'damage')}{where}")
         self.tell(f"{files} files, {self.damages} damages, {self.unread} that could not be read")
         if self.as_json:
-            relations = [{"file": relation, **fields_of(self.name_of(relation)), "damages": count}
+            relations = [{"file": relation, **fields_of(self.name_of(relation)), "damages": count,
+                          "blocks": self.blocks[relation]}
                          for relation, count in self.by_relation.items()]
             print(json.dumps({"files": files, "damages": self.damages, "unread": self.unread,
                               "relations": relations, "status": self.status()}), flush=True)
+
+
+def some(count, what):
+    return f"{count} {what}{'s' * (count > 1)}"
 
 
 def in_brackets(name):

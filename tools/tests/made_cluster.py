@@ -19,7 +19,7 @@ def page(block, rows=(b"row",), mask=FROZEN | NO_DELETER):
     """A page of a heap with these values, and with the checksum of its block."""
     raw, upper = bytearray(PAGE), PAGE
     for number, values in enumerate(rows):
-        item = struct.pack("<3IHHHHHBx", 3, 0, 0, 0, block % 65536, number + 1, 1, mask, 24) + values
+        item = struct.pack("<3I5HBx", 3, 0, 0, *divmod(block, 65536), number + 1, 1, mask, 24) + values
         upper -= (len(item) + 7) // 8 * 8
         raw[upper : upper + len(item)] = item
         struct.pack_into("<I", raw, 24 + 4 * number, upper | 1 << 15 | len(item) << 17)
@@ -33,11 +33,11 @@ def with_checksum(raw, block):
     return bytes(raw)
 
 
-def control(state=SHUT_DOWN, checksums=1, block_size=PAGE, segment_blocks=SEGMENT, version=1300):
+def control(state=SHUT_DOWN, checksums=1, block_size=PAGE, segment_blocks=SEGMENT, version=1300, epoch=0):
     raw = bytearray(8192)
     struct.pack_into("<QIII", raw, 0, 7, version, 202209061, state)
     struct.pack_into("<Q", raw, 32, 0x1_0000_00A8)
-    struct.pack_into("<2I", raw, 64, 755, 0)
+    struct.pack_into("<2I", raw, 64, 755, epoch)
     struct.pack_into("<2I", raw, 216, block_size, segment_blocks)
     struct.pack_into("<I", raw, 252, checksums)
     struct.pack_into("<I", raw, 288, crc32c(bytes(raw[:288])))

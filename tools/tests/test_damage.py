@@ -1,5 +1,5 @@
 """Each kind of damage has its line, its name and its status."""
-import json, os, struct, unittest
+import json, os, re, struct, unittest
 
 from made_cluster import (COMMITTED, IN_PRODUCTION, NO_DELETER, PAGE, SEGMENT, CLASSES, Cluster, class_row, control,
                           database_row, page, with_checksum)
@@ -21,20 +21,22 @@ def mark(test, byte=0, marks=b"\x40"):
     test.write("base/5/16384_vm", with_checksum(raw, 0))
 
 
+def change_checksum(path):
+    return lambda test: test.change(path, 8, bytes(2))
+
+
 # What is done to the cluster, and the lines that it has to give.
 KINDS = {
-    "header": (lambda test: test.change("base/5/16384", PAGE, bytes(24)),
-               ["base/5/16384 block 1 (shop public.orders): damaged page header"]),
     "checksum": (lambda test: test.write("base/5/16384", page(0) + page(0)),
                  ["base/5/16384 block 1 (shop public.orders): checksum X expected X"]),
-    "header of an index": (lambda test: test.change("base/5/16388", 0, bytes(24)),
-                           ["base/5/16388 block 0 (shop public.orders_pkey, index of public.orders): damaged page header"]),
-    "header of a TOAST table": (
-        lambda test: test.change("base/5/16387", 0, bytes(24)),
-        ["base/5/16387 block 0 (shop pg_toast.pg_toast_16384, TOAST table of public.orders): damaged page header"]),
-    "odd name": (lambda test: test.change("base/5/16390", 0, bytes(24)),
-                 ['base/5/16390 block 0 (shop public."Odd ""name\\x0a"): damaged page header']),
-    "shared catalog": (lambda test: test.change("global/1262", 0, bytes(24)), ["global/1262 block 0: damaged page header"]),
+    "index": (change_checksum("base/5/16388"),
+              ["base/5/16388 block 0 (shop public.orders_pkey, index of public.orders): checksum X expected X"]),
+    "TOAST table": (
+        change_checksum("base/5/16387"),
+        ["base/5/16387 block 0 (shop pg_toast.pg_toast_16384, TOAST table of public.orders): checksum X expected X"]),
+    "odd name": (change_checksum("base/5/16390"),
+                 ['base/5/16390 block 0 (shop public."Odd ""name\\x0a"): checksum X expected X']),
+    "shared catalog": (change_checksum("global/1262"), ["global/1262 block 0: checksum X expected X"]),
     "torn": (lambda test: test.write("base/5/16384", page(0) + b"torn"),
              ["base/5/16384 (shop public.orders): ends in 4 bytes of block 1"]),
     "segment missing": (lose_first_segment, ["base/5/16384 (shop public.orders): missing"]),
@@ -45,15 +47,15 @@ KINDS = {
                        f"base/5/16384.1 block {SEGMENT} (shop public.orders): checksum X expected X"]),
     "file missing": (lambda test: os.remove(f"{test.data}/base/5/16384"),
                      ["base/5/16384 (shop public.orders): missing, though pg_class has it"]),
-    "map past the end": (mark, ["base/5/16384_vm (shop public.orders): its relation has 3 blocks, but block 3 is marked"]),
+    "map past the end": (
+        mark, ["base/5/16384_vm (shop public.orders): its relation has 3 blocks, but block 3 is marked"]),
     "control": (damage_control, ["global/pg_control: has a wrong CRC"]),
 }
 
 
 def without_sums(line):
     """A line of a checksum, with X in place of the sums, which the page's bytes give."""
-    words = line.split(" ")
-    return [*words[:-3], "X", "expected", "X"] if words[-2:-1] == ["expected"] else words
+    return re.sub(r"checksum \d+ expected \d+", "checksum X expected X", line)
 
 
 class Damage(Cluster):
@@ -75,9 +77,11 @@ class Damage(Cluster):
 
     def test_the_sums_of_a_checksum_line(self):
         self.write("base/5/16384", page(0) + page(0))
-        expected = struct.unpack_from("<H", page(0), 8)[0]
-        _, out, _ = self.run_script(self.data)
-        self.assertRegex(out[0], rf"checksum \d+ expected {expected}$")
+        stored, expected = (struct.unpack_from("<H", it, 8)[0] for it in (page(0), with_checksum(page(0), 1)))
+        _, out, _ = self.run_script("--json", "-q", self.data)
+        damage = json.loads(out[0])
+        self.assertEqual([damage[it] for it in ("damage", "text", "checksum", "expected")],
+                         ["checksum", f"checksum {stored} expected {expected}", stored, expected])
 
     def test_a_map_may_mark_the_last_block(self):
         mark(self, marks=b"\x30")
@@ -89,13 +93,6 @@ class Damage(Cluster):
             with self.subTest(checksums=checksums, words=words):
                 self.write("global/pg_control", control(checksums=checksums))
                 self.assertEqual(self.run_script(*words, self.data)[0], status)
-
-    def test_segments_behind_the_sixteenth_have_their_headers_looked_at(self):
-        self.write("base/5/16384.16", page(0) + bytes(24) + page(1)[24:])
-        status, out, err = self.run_script("--no-names", self.data)
-        self.assertEqual(status, 1)
-        self.assertIn(f"base/5/16384.16 block {16 * SEGMENT + 1}: damaged page header", out)
-        self.assertTrue(any("base/5/16384.16: headers alone" in it for it in err))
 
     def test_after_a_crash_a_lost_file_or_mark_is_no_damage(self):
         os.remove(f"{self.data}/base/5/16384")
@@ -125,31 +122,35 @@ class Damage(Cluster):
         self.assertEqual((status, out), (1, ["base/6: missing, though pg_database has lost"]))
 
     def test_names_can_be_left_out(self):
-        self.change("base/5/16384", 0, bytes(24))
+        self.change("base/5/16384", 8, bytes(2))
         os.remove(f"{self.data}/base/5/16390")
-        self.assertEqual(self.run_script("--no-names", self.data)[1], ["base/5/16384 block 0: damaged page header"])
+        [line] = self.run_script("--no-names", self.data)[1]
+        self.assertEqual(without_sums(line), "base/5/16384 block 0: checksum X expected X")
 
     def test_damage_of_a_relation_is_summed(self):
-        self.change("base/5/16384", 0, bytes(24))
-        self.change("base/5/16384", PAGE, bytes(24))
-        _, _, err = self.run_script(self.data)
-        self.assertEqual(err[-2:], ["damaged_pages: base/5/16384 (shop public.orders): 2 damages",
-                                    "damaged_pages: 8 files, 2 damages, 0 that could not be read"])
+        self.write("base/5/16384", page(0)[:8] + bytes(2) + page(0)[10:] + bytes(24) + page(1)[24:])
+        os.remove(f"{self.data}/base/5/16390")
+        _, out, err = self.run_script(self.data)
+        self.assertEqual(err[-3:], ['damaged_pages: base/5/16390 (shop public."Odd ""name\\x0a"): 1 damage',
+                                    "damaged_pages: base/5/16384 (shop public.orders): 3 damages in 2 blocks",
+                                    "damaged_pages: 7 files, 4 damages, 0 that could not be read"])
+        self.assertEqual(len(out), 4)
 
     def test_json(self):
-        self.change("base/5/16384", PAGE, bytes(24))
+        self.write("base/5/16384", page(0) + b"torn")
         status, out, err = self.run_script("--json", "-q", self.data)
         damage, sums = map(json.loads, out)
         self.assertEqual((status, err), (1, []))
-        self.assertEqual(damage, {"file": "base/5/16384", "block": 1, "database": "shop", "schema": "public",
-                                  "relation": "orders", "kind": "table", "of": None, "damage": "header",
-                                  "text": "damaged page header"})
+        self.assertEqual(damage, {"file": "base/5/16384", "block": None, "database": "shop", "schema": "public",
+                                  "relation": "orders", "kind": "table", "of": None, "damage": "torn",
+                                  "text": "ends in 4 bytes of block 1"})
         self.assertEqual([sums[it] for it in ("files", "damages", "unread", "status")], [8, 1, 0, 1])
-        self.assertEqual([it["relation"] for it in sums["relations"]], ["orders"])
+        self.assertEqual([[it["relation"], it["damages"], it["blocks"]] for it in sums["relations"]],
+                         [["orders", 1, 0]])
 
     def test_quiet_tells_damage_alone(self):
         self.assertEqual(self.run_script("-q", self.data), (0, [], []))
-        self.change("base/5/16384", PAGE, bytes(24))
+        self.change("base/5/16384", PAGE + 8, bytes(2))
         status, out, err = self.run_script("-q", self.data)
         self.assertEqual((status, len(out), err), (1, 1, []))
 

@@ -31,9 +31,10 @@ class Package(Cluster):
         prefix = f"{self.top}/a prefix"
         os.mkdir(prefix)
         subprocess.run(["tar", "-xzf", f"{self.top}/out/{archive}", "-C", prefix, "--strip-components=1"], check=True)
-        self.change("base/5/16384", PAGE, bytes(24))
+        self.change("base/5/16384", PAGE + 8, bytes(2))
         status, out, _ = self.run_script(self.data, script=f"{prefix}/bin/damaged_pages", program=None)
-        self.assertEqual((status, out), (1, ["base/5/16384 block 1 (shop public.orders): damaged page header"]))
+        self.assertEqual((status, len(out)), (1, 1))
+        self.assertRegex(out[0], r"^base/5/16384 block 1 \(shop public.orders\): checksum 0 expected \d+$")
         listing = subprocess.run([f"{prefix}/bin/aioscan", f"{self.data}/base/5/16390"], capture_output=True, text=True)
         self.assertEqual(listing.stdout.count("page 0 "), 3)
         for word, begin in [("--help", "usage: aioscan"), ("-h", "usage: aioscan"), ("--version", "aioscan 0.")]:

@@ -15,7 +15,7 @@ class Refusals(Cluster):
         for word in ("--help", "-h", "--version"):
             status, out, err = self.run_script(word)
             self.assertEqual((status, err), (0, []))
-            self.assertIn("damaged", out[0].lower())
+            self.assertIn("damage", out[0].lower())
 
     def test_words_that_are_no_command(self):
         for words in [[], ["--unknown", self.data], [self.data, self.data], ["--jobs", "0", self.data],
@@ -76,28 +76,53 @@ class Refusals(Cluster):
     def test_a_file_that_may_not_be_read_is_passed_over(self):
         someone = self.someone()
         os.chmod(f"{self.data}/base/5/16384", 0)
-        self.change("base/5/16390", 0, bytes(24))
+        self.change("base/5/16390", 8, bytes(2))
         status, out, err = self.run_script(self.data, user=someone)
         self.assertEqual(status, 2)
         self.assertIn("damaged_pages: base/5/16384: Permission denied", err)
         self.assertEqual(len(out), 1)
 
-    def test_it_goes_on_behind_a_block_that_cannot_be_read(self):
-        """A stand-in fails at block 1 of the one file, and finds block 2 damaged."""
+    def keep_one_file(self):
+        """Leaves one relation file, and no other that a run would be split at."""
         for name in os.listdir(f"{self.data}/base/5"):
             if name != "16384":
                 os.remove(f"{self.data}/base/5/{name}")
         os.remove(f"{self.data}/global/1262")
-        program = self.stand_in('case "$*" in *--make*) ;; *"--from 2"*) echo zeroed page 0 2 >&2 ;;\n'
-                                '*) echo unread page 0 1 >&2; exit 3 ;; esac')
-        self.change("base/5/16384", 2 * 8192, bytes(24))
+
+    def test_it_goes_on_behind_a_block_that_cannot_be_read(self):
+        """A stand-in fails at blocks 1 and 3 of the one file, and finds faults before and behind them."""
+        self.keep_one_file()
+        program = self.stand_in('case "$*" in *--make*) ;;\n'
+                                '*"--from 4"*) echo fault 0 4 lower 5; echo pages 1 new 0 faults 1; exit 1 ;;\n'
+                                '*"--from 2"*) echo unread page 0 3 >&2; exit 3 ;;\n'
+                                '*) echo fault 0 0 version 5; echo unread page 0 1 >&2; exit 3 ;; esac')
         status, out, err = self.run_script("--no-names", self.data, program=program)
-        self.assertEqual((status, out), (2, ["base/5/16384 block 2: damaged page header"]))
-        self.assertIn("damaged_pages: base/5/16384 block 1: could not be read", err)
+        self.assertEqual((status, out), (2, ["base/5/16384 block 0: version 5", "base/5/16384 block 4: lower 5"]))
+        for block in (1, 3):
+            self.assertIn(f"damaged_pages: base/5/16384 block {block}: could not be read", err)
+
+    def test_each_half_of_the_files_is_looked_at_where_a_run_fails(self):
+        """A stand-in has no memory for two files. Of each alone it finds a fault."""
+        program = self.stand_in('case "$*" in *--make*) exit ;; *"-- "*" "*) ;;\n'
+                                '*"-- "*) echo fault 0 1 version 5; echo pages 3 new 0 faults 1; exit 1 ;; esac\n'
+                                'echo fault 0 1 version 5; echo out of memory >&2; exit 5')
+        status, out, _ = self.run_script("--no-names", self.data, program=program)
+        self.assertEqual((status, len(out), len(set(out))), (1, 8, 8))
+
+    def test_a_file_that_the_program_refuses(self):
+        self.keep_one_file()
+        for status in (3, 5, 6, 7):
+            program = self.stand_in(f'case "$*" in *--make*) ;; *) echo why >&2; exit {status} ;; esac')
+            self.assertIn("damaged_pages: base/5/16384: why", self.refused(self.data, program=program))
 
     def test_a_program_that_fails(self):
         self.assertIn("--make 1: 9", self.refused(self.data, program=self.stand_in("exit 9")))
         self.assertIn("No such file", self.refused(self.data, program=f"{self.top}/none"))
+        self.assertIn("ended with status 0: it has printed no sums", self.refused(self.data, program=self.stand_in("")))
+        for line in ("fault 0 0 unknown 5", "fault 9 0"):
+            program = self.stand_in('case "$*" in *--make*) ;;\n'
+                                    f'*) echo {line}; echo pages 1 new 0 faults 1; exit 1 ;; esac')
+            self.assertIn("ended with status 1", self.refused(self.data, program=program))
 
     def test_the_program_is_found_beside_through_a_link_and_by_path(self):
         home, bin = f"{self.top}/lib/aioscan", f"{self.top}/bin"
@@ -113,7 +138,7 @@ class Refusals(Cluster):
             self.assertEqual(self.run_script(self.data, script=f"{bin}/damaged_pages", program=None, **how)[0], 0)
 
     def test_progress_is_shown_on_a_terminal_alone(self):
-        program = self.stand_in('case "$*" in *--make*) ;; *) sleep 1.2 ;; esac')
+        program = self.stand_in('case "$*" in *--make*) ;; *) sleep 1.2; echo pages 0 new 0 faults 0 ;; esac')
         _, _, err = self.run_script(self.data, program=program)
         self.assertFalse(any("%" in it for it in err))
         terminal, end = pty.openpty()

@@ -1,27 +1,25 @@
 -- What the aim of a record tells.
 use Rattle.std.proofs.Common.{◌≡◌, List, [], ◌∷◌, map, refl, arith, ℕ, Bool, true, false, cond}
+use Rattle.std.proofs.Common.{◌==◌, if◌then◌else◌, sym, ap, ◌∙◌}
 use Rattle.read_callbacks.specs.declared.chain.CallbackId.{CallbackId}
 use Rattle.read_callbacks.specs.declared.chain.CallbackId.TheVariants.{File, Buffer, Count}
-use Rattle.read_callbacks.specs.declared.chain.CallbackId.TheVariants.{ZeroBuffer}
+use Rattle.read_callbacks.specs.declared.chain.CallbackId.TheVariants.{ZeroBuffer, MarkBuffer}
 use Rattle.aio_callback.specs.ReadIoView.{ReadIoView, ReadsAs, record_aim, number_of_id}
 
+abbrev id_of_number : ℕ → CallbackId
+id_of_number n =
+    if n == 1 then File else (if n == 2 then Buffer else (if n == 3 then Count
+    else (if n == 4 then ZeroBuffer else MarkBuffer)))
+
+id-back : (id : CallbackId) → id_of_number (number_of_id id) ≡ id
+id-back File = refl
+id-back Buffer = refl
+id-back Count = refl
+id-back ZeroBuffer = refl
+id-back MarkBuffer = refl
+
 same-id : (a b : CallbackId) → number_of_id a ≡ number_of_id b → a ≡ b
-same-id File File e = refl
-same-id File Buffer e = absurd (omega arith)
-same-id File Count e = absurd (omega arith)
-same-id File ZeroBuffer e = absurd (omega arith)
-same-id Buffer File e = absurd (omega arith)
-same-id Buffer Buffer e = refl
-same-id Buffer Count e = absurd (omega arith)
-same-id Buffer ZeroBuffer e = absurd (omega arith)
-same-id Count File e = absurd (omega arith)
-same-id Count Buffer e = absurd (omega arith)
-same-id Count Count e = refl
-same-id Count ZeroBuffer e = absurd (omega arith)
-same-id ZeroBuffer File e = absurd (omega arith)
-same-id ZeroBuffer Buffer e = absurd (omega arith)
-same-id ZeroBuffer Count e = absurd (omega arith)
-same-id ZeroBuffer ZeroBuffer e = refl
+same-id a b e = sym (id-back a) ∙ ap id_of_number e ∙ id-back b
 
 same-ids : (xs ys : List CallbackId) → map number_of_id xs ≡ map number_of_id ys → xs ≡ ys
 same-ids [] [] e = refl

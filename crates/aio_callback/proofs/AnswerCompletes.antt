@@ -5,10 +5,10 @@ use Rattle.std.proofs.Common.{Option, Some, None}
 use Rattle.std.specs.Prelude.{IfSome}
 use Rattle.std.proofs.lemmas.List.{get_or-take}
 use Rattle.std.proofs.lemmas.List.FromFn.{get_or-map-range_with_len}
-use Rattle.page_check.specs.Told.{Told, relation_page, relation_block_count}
+use Rattle.page_check.specs.Told.{Told, relation_page}
 use Rattle.page_check.specs.Checksum.{verdict_as, IsValidAs}
-use Rattle.page_check.specs.SynchronousAnswer.{Page, Damaged, found_at}
-use Rattle.page_check.proofs.SynchronousReads.{found_at-page, found_at-damaged}
+use Rattle.page_check.specs.declared.rules.PageMark.{PageMark}
+use Rattle.page_check.specs.declared.rules.PageMark.TheVariants.{Valid, Zeroed, Damaged}
 use Rattle.page_check.specs.declared.verdict.Verdict.{Verdict}
 use Rattle.page_check.specs.declared.verdict.Verdict.TheVariants.{Zero, Sane, Bad}
 use Rattle.aio_disk.specs.Disk.{ReadsPages}
@@ -17,7 +17,7 @@ use Rattle.read_callbacks.specs.declared.chain.Raw.{Raw}
 use Rattle.read_callbacks.specs.declared.chain.Raw.TheVariants.{Read, Failed}
 use Rattle.read_callbacks.specs.Chain.{is_bad, is_bad_verdict, class_of, chain_start, chain_result}
 use Rattle.read_callbacks.specs.Chain.{good_count, Outcome}
-use Rattle.read_callbacks.specs.GoodPages.{IsGivenAs}
+use Rattle.read_callbacks.specs.GoodPages.{IsContents, HasBadPage, IsGivenAs}
 use Rattle.aio_callback.specs.ReadIoView.{ReadIoView, IsToldRead, HasAnswer, IsCompletedRead}
 use Rattle.aio_callback.specs.ReadIoView.{ReadFits, after_shared, IsAfterShared, record_aim}
 use Rattle.aio_callback.specs.ReadIoView.{number_of_id}
@@ -30,62 +30,46 @@ not_bad Zero e b = absurd (cc)
 not_bad Sane e b = absurd (cc)
 not_bad Bad e b = absurd (cc)
 
--- the page of a block that the relation has
-pub record IsPageOf (told : Told) (relation block : ℕ) (page : List ℕ) : Type 0 where
-  pub there : block < relation_block_count told relation
-  pub same : page ≡ relation_page told relation block
-
--- a valid one is what its block gives
-found_good : (sums : Bool) (told : Option Told) (relation block : ℕ) (page : List ℕ)
-    → IsValidAs sums block page
-    → IfSome told (λ t. IsPageOf t relation block page)
-    → IfSome told (λ t. found_at sums t relation block ≡ Page page)
-found_good sums None relation block page valid h = h
-found_good sums (Some t) relation block page valid h =
-    let P : List ℕ → Type 0 = λ p. found_at sums t relation block ≡ Page p in
-    subst P (sym h.same)
-    (found_at-page sums t relation block h.there (subst (IsValidAs sums block) h.same valid))
-
 is_bad-verdict : (v : Verdict) → is_bad_verdict v ≡ true → v ≡ Bad
 is_bad-verdict Bad is = refl
 is_bad-verdict Zero is = absurd (cc)
 is_bad-verdict Sane is = absurd (cc)
 
--- and a bad one tells that its block is damaged
-pub found_bad : (sums : Bool) (told : Option Told) (relation block : ℕ) (page : List ℕ)
-    → is_bad sums block page ≡ true
-    → IfSome told (λ t. IsPageOf t relation block page)
-    → IfSome told (λ t. found_at sums t relation block ≡ Damaged)
-found_bad sums None relation block page bad h = h
-found_bad sums (Some t) relation block page bad h =
-    found_at-damaged sums t relation block h.there
-    (is_bad-verdict (verdict_as sums block (relation_page t relation block))
-    (ap (is_bad sums block) (sym h.same) ∙ bad))
+-- where the page of a block is bad, the block has a bad page
+pub contents_bad : (sums : Bool) (told : Option Told) (relation block : ℕ) (page : List ℕ)
+    → is_bad sums block page ≡ true → IsContents told relation block page
+    → HasBadPage told sums relation block
+contents_bad sums None relation block page bad h = h
+contents_bad sums (Some t) relation block page bad h =
+    (h.0, ap (verdict_as sums block) h.1 ∙ is_bad-verdict (verdict_as sums block page) bad)
 
 -- a page among those that were read is that of its block
 pub told_at : (told : Option Told) (relation first n i : ℕ) (pages : List (List ℕ)) → i < n
     → IfSome told (λ t. ReadsPages t relation first n pages)
-    → IfSome told (λ t. IsPageOf t relation (first + i) (get_or pages i []))
+    → IsContents told relation (first + i) (get_or pages i [])
 told_at None relation first n i pages lt h = h
-told_at (Some t) relation first n i pages lt h = record {
-  there = let w = h.within in omega arith;
-  same = sym (get_or-take n pages i [] lt)
+told_at (Some t) relation first n i pages lt h = (
+  let w = h.within in omega arith,
+  sym (sym (get_or-take n pages i [] lt)
       ∙ (ap (λ (ps : List (List ℕ)). get_or ps i []) h.told_pages
-      ∙ get_or-map-range_with_len (relation_page t relation) first n i (first + i) [] lt refl);
-}
+      ∙ get_or-map-range_with_len (relation_page t relation) first n i (first + i) [] lt refl)),
+)
 
 -- what a page that is held in place of a told one is given as
-given_as : (sums : Bool) (told : Option Told) (relation block : ℕ) (mark : Bool)
-    (read page : List ℕ) → IfSome told (λ t. IsPageOf t relation block read)
-    → IsValidAs sums block page → PageMatchesMark sums block mark read page
+given_as : (sums : Bool) (told : Option Told) (relation block : ℕ) (mark : PageMark)
+    (read page : List ℕ) → IsContents told relation block read
+    → (mark ≡ Valid → IsValidAs sums block page) → PageMatchesMark sums block mark read page
     → IsGivenAs told sums relation block page mark
-given_as sums told relation block false read page there valid held = record {
-  valid = valid;
-  told_page = found_good sums told relation block page valid
-      (subst (λ (x : List ℕ). IfSome told (λ t. IsPageOf t relation block x)) (sym held) there);
+given_as sums told relation block Valid read page there valid held = record {
+  valid = valid refl;
+  contents = subst (IsContents told relation block) (sym held) there;
 }
-given_as sums told relation block true read page there valid held =
-    record { zeros = held.zeros; told_bad = found_bad sums told relation block read held.bad there }
+given_as sums told relation block Zeroed read page there valid held =
+    record { zeros = held.0; told_bad = contents_bad sums told relation block read held.1 there }
+given_as sums told relation block Damaged read page there valid held = record {
+  bad = ap (verdict_as sums block) held.0 ∙ is_bad-verdict (verdict_as sums block read) held.1;
+  contents = subst (IsContents told relation block) (sym held.0) there;
+}
 
 -- what the callbacks make of this answer and these pages
 abbrev run : ReadIoView → Raw → List (List ℕ) → Outcome
@@ -95,20 +79,21 @@ goods : (told : Option Told) (r : ReadIoView) (answer : Raw) (pages : List (List
     → IsToldRead told r answer pages → r.count ≤ length pages
     → (i : ℕ) → i < good_count r.ids (run r answer pages).result
     → IsGivenAs told r.checksums r.relation (r.first + i) (get_or (run r answer pages).pages i [])
-    (get_or (run r answer pages).zeroed i false)
+    (get_or (run r answer pages).marks i Valid)
 goods told r Failed pages h room i lt =
     let b = good_below r.checksums r.first r.count r.ids (chain_start Failed pages) in absurd (omega arith)
 goods told r (Read n) pages h room i lt =
     let b = good_below r.checksums r.first r.count r.ids (chain_start (Read n) pages) in
     let w = h.0 in
     let o = run r (Read n) pages in
-    let valid : IsValidAs r.checksums (r.first + i) (get_or o.pages i []) =
-    not_bad (verdict_as r.checksums (r.first + i) (get_or o.pages i []))
-    (good_clean r.checksums r.first r.count r.ids (Read n) pages (omega arith) i lt) in
-    given_as r.checksums told r.relation (r.first + i) (get_or o.zeroed i false)
+    let valid : get_or o.marks i Valid ≡ Valid
+    → IsValidAs r.checksums (r.first + i) (get_or o.pages i []) =
+    λ e. not_bad (verdict_as r.checksums (r.first + i) (get_or o.pages i []))
+    (good_clean r.checksums r.first r.count r.ids (Read n) pages (omega arith) i lt e) in
+    given_as r.checksums told r.relation (r.first + i) (get_or o.marks i Valid)
     (get_or pages i []) (get_or o.pages i [])
     (told_at told r.relation r.first n i pages (omega arith) h.1) valid
-    (match_at r.checksums r.first o.zeroed pages o.pages i (r.first + i) (omega arith) refl
+    (match_at r.checksums r.first o.marks pages o.pages i (r.first + i) (omega arith) refl
     (begun_holds r.checksums r.first r.count r.ids (Read n) pages))
 
 few : (told : Option Told) (r : ReadIoView) (answer : Raw) (pages : List (List ℕ))
@@ -186,5 +171,5 @@ aim_after told r s a h =
     ap record_aim (shared_by_answer r s r.raw a.answer a.is h)
     ∙ ap (λ (n : ℕ). n ∷ r.relation ∷ r.first ∷ r.count ∷ cond r.checksums 1 0
     ∷ map number_of_id r.ids)
-    (matching_pages r.checksums r.first o.zeroed r.pages o.pages
-    (begun_holds r.checksums r.first r.count r.ids a.answer r.pages))
+    (matching_pages r.checksums r.first o.marks r.pages o.pages
+    (begun_holds r.checksums r.first r.count r.ids a.answer r.pages)).0

@@ -5,8 +5,8 @@ use Rattle.std.specs.List.{range_with_len}
 use Rattle.std.proofs.lemmas.List.{append_assoc}
 use Rattle.std.proofs.lemmas.List.FromFn.{map-range_with_len_more}
 use Rattle.std.proofs.Common.{nat_lt, not, ◌&&◌, if◌then◌else◌}
-use Rattle.read_callbacks.specs.Chain.{good_count}
-use Rattle.aio_callback.specs.ReadIoView.{ReadIoView, record_page, record_zeroed}
+use Rattle.read_callbacks.specs.Chain.{good_count, is_marked}
+use Rattle.aio_callback.specs.ReadIoView.{ReadIoView, record_page, record_mark}
 use Rattle.read_callbacks.specs.Finishes.{Finish, FinishesGrew}
 use Rattle.aio_callback.specs.Finishes.{record_reference, one_finish}
 use Rattle.aio_callback.specs.Finishes.{all_finishes}
@@ -26,8 +26,7 @@ one_more a b c r n h k =
     subst (λ (xs : List Finish). FinishesGrew a c xs)
     (sym (map-range_with_len_more (one_finish r) 0 n n (omega arith))) (grew_more a b c _ _ h k)
 
--- a call that tells of the block at this place, with its page where that is good and was not
--- zeroed
+-- a call that tells of the block at this place, with its page where that is good and not marked
 abbrev told_at : ReadIoView → ℕ → Option (List ℕ) → Finish
 told_at r i page = record {
   relation = r.relation;
@@ -39,15 +38,15 @@ told_at r i page = record {
 
 pub one_told : (a b c : Option (List Finish)) (r s : ReadIoView) (good i : ℕ)
     (page : Option (List ℕ)) → r ≡ s → good ≡ good_count s.ids s.result
-    → page ≡ (if nat_lt i good && not (record_zeroed s i) then Some (record_page s i) else None)
+    → page ≡ (if nat_lt i good && not (is_marked (record_mark s i)) then Some (record_page s i)
+    else None)
     → FinishesGrew a b (map (one_finish s) (range_with_len 0 i))
     → FinishesGrew b c (told_at r i page ∷ [])
     → FinishesGrew a c (map (one_finish s) (range_with_len 0 (i + 1)))
 one_told a b c r s good i page same few is h k =
     let here : page ≡ (one_finish s i).page =
-    is ∙ ap (λ (n : ℕ). if nat_lt i n && not (record_zeroed s i) then Some (record_page s i) else
-    None)
-    few in
+    is ∙ ap (λ (n : ℕ). if nat_lt i n && not (is_marked (record_mark s i)) then Some
+    (record_page s i) else None) few in
     one_more a b c s i h
     (subst (λ (o : Option (List ℕ)). FinishesGrew b c (told_at s i o ∷ [])) here
     (subst (λ (z : ReadIoView). FinishesGrew b c (told_at z i page ∷ [])) same k))

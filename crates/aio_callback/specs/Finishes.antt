@@ -3,9 +3,9 @@ use Rattle.std.specs.Prelude.{ℕ, ◌+◌, List, map, nat_lt, Some, None, not, 
 use Rattle.std.specs.Prelude.{if◌then◌else◌}
 use Rattle.std.specs.List.{range_with_len}
 use Rattle.aio_word.specs.declared.WaitRef.{WaitRef}
-use Rattle.read_callbacks.specs.Chain.{good_count}
+use Rattle.read_callbacks.specs.Chain.{good_count, is_marked}
 use Rattle.read_callbacks.specs.Finishes.{Finish}
-use Rattle.aio_callback.specs.ReadIoView.{ReadIoView, record_page, record_zeroed}
+use Rattle.aio_callback.specs.ReadIoView.{ReadIoView, record_page, record_mark}
 
 abbrev pub record_reference : ReadIoView → WaitRef
 record_reference r = record { handle = r.label.handle; generation = r.label.generation }
@@ -17,7 +17,7 @@ one_finish r i = record {
   block = r.first + i;
   checksums = r.checksums;
   reference = record_reference r;
-  page = if nat_lt i (good_count r.ids r.result) && not (record_zeroed r i) then Some
+  page = if nat_lt i (good_count r.ids r.result) && not (is_marked (record_mark r i)) then Some
       (record_page r i)
       else None;
 }

@@ -4,6 +4,8 @@ use Rattle.std.specs.Prelude.{length, Option, Some, None, IfSome, slice_index_or
 use Rattle.std.specs.Prelude.{replicate, pos}
 use Rattle.std.specs.List.{refill}
 use Rattle.page_check.specs.Told.{Told}
+use Rattle.page_check.specs.declared.rules.PageMark.{PageMark}
+use Rattle.page_check.specs.declared.rules.PageMark.TheVariants.{Valid}
 use Rattle.aio_disk.specs.Disk.{ReadsPages}
 use Rattle.aio_word.specs.declared.Class.{Class}
 use Rattle.aio_word.specs.declared.Class.TheVariants.{Unended}
@@ -15,8 +17,8 @@ use Rattle.read_callbacks.specs.declared.chain.Raw.{Raw}
 use Rattle.read_callbacks.specs.declared.chain.Raw.TheVariants.{Read, Failed}
 use Rattle.read_callbacks.specs.declared.chain.CallbackId.{CallbackId}
 use Rattle.read_callbacks.specs.declared.chain.CallbackId.TheVariants.{File, Buffer, Count}
-use Rattle.read_callbacks.specs.declared.chain.CallbackId.TheVariants.{ZeroBuffer}
-use Rattle.read_callbacks.specs.Chain.{Outcome, outcome_of, none_zeroed, chain_start, result_of}
+use Rattle.read_callbacks.specs.declared.chain.CallbackId.TheVariants.{ZeroBuffer, MarkBuffer}
+use Rattle.read_callbacks.specs.Chain.{Outcome, outcome_of, all_valid, chain_start, result_of}
 use Rattle.read_callbacks.specs.Chain.{class_of}
 use Rattle.read_callbacks.specs.Chain.{chain_result, good_count}
 use Rattle.read_callbacks.specs.GoodPages.{IsGivenAs}
@@ -35,14 +37,15 @@ pub record ReadIoView : Type 0 where
   pub result : AioResult
   -- its pages, as many as it has room for
   pub pages : List (List ℕ)
-  -- which of them were set to zeros when it ended
-  pub zeroed : List Bool
+  -- what was said of each when it ended
+  pub marks : List PageMark
 
 abbrev pub number_of_id : CallbackId → ℕ
 number_of_id File = 1
 number_of_id Buffer = 2
 number_of_id Count = 3
 number_of_id ZeroBuffer = 4
+number_of_id MarkBuffer = 5
 
 -- what it is to read, and into how much room
 abbrev pub record_aim : ReadIoView → List ℕ
@@ -61,8 +64,8 @@ pub record ReadsAs (r s : ReadIoView) : Type 0 where
 abbrev pub record_page : ReadIoView → ℕ → List ℕ
 record_page r i = slice_index_or r.pages i []
 
-abbrev pub record_zeroed : ReadIoView → ℕ → Bool
-record_zeroed r i = slice_index_or r.zeroed i false
+abbrev pub record_mark : ReadIoView → ℕ → PageMark
+record_mark r i = slice_index_or r.marks i Valid
 
 -- the raw answer says of these pages what a disk's answer to this read says
 abbrev pub IsToldRead : Option Told → ReadIoView → Raw → List (List ℕ) → Type 0
@@ -76,11 +79,10 @@ pub record HasAnswer (told : Option Told) (r : ReadIoView) : Type 0 where
   pub is : r.raw ≡ Some answer
   pub told_read : IsToldRead told r answer r.pages
 
--- the first pages are those of the blocks, valid and as they are told, or zeros in place of bad
--- ones
+-- the first pages are what their marks say, for the blocks that were read
 abbrev pub AllGood : Option Told → ReadIoView → ℕ → Type 0
 AllGood told r good = (i : ℕ) → i < good
-    → IsGivenAs told r.checksums r.relation (r.first + i) (record_page r i) (record_zeroed r i)
+    → IsGivenAs told r.checksums r.relation (r.first + i) (record_page r i) (record_mark r i)
 
 -- the read has ended: its result and its pages are those of its callbacks, for some answer and the
 -- pages that were read then
@@ -89,7 +91,7 @@ pub record IsCompletedRead (told : Option Told) (r : ReadIoView) : Type 0 where
   pub read : List (List ℕ)
   pub told_read : IsToldRead told r answer read
   pub class : r.label.ended ≡ class_of r.count answer
-  pub outcome : outcome_of r.result r.pages r.zeroed
+  pub outcome : outcome_of r.result r.pages r.marks
       ≡ chain_result r.checksums r.first r.count r.ids (chain_start answer read)
   pub few : good_count r.ids r.result ≤ r.count
   pub good : AllGood told r (good_count r.ids r.result)
@@ -114,7 +116,7 @@ new_record room = record {
   raw = None;
   result = result_of 0 Unknown 0 (pos 0);
   pages = replicate room (replicate 8192 0);
-  zeroed = none_zeroed room;
+  marks = all_valid room;
 }
 
 -- after `bind`: no answer stands
@@ -144,7 +146,7 @@ with_outcome r o class = record r {
   label = record r.label { ended = class; settled = false };
   result = o.result;
   pages = o.pages;
-  zeroed = o.zeroed;
+  marks = o.marks;
 }
 
 abbrev pub after_shared : ReadIoView → Raw → ReadIoView

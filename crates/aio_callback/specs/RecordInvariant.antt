@@ -10,7 +10,7 @@ pub record RecordInvariant (r : Inside) : Type 0 where
   pub most : r.room ≤ 128
   pub capacity : r.room ≤ vec_capacity r.pages
   pub room_or_none : (r.pages.items ≡ []) ⊎ (length r.pages.items ≡ r.room)
-  pub marks : length r.zeroed.items ≡ r.room
+  pub marks : length r.marks.items ≡ r.room
   pub within : r.count ≤ r.room
   pub in_range : r.first + r.count ≤ 2 ^ 32
   pub some : r.aimed ≡ true → 0 < r.count

@@ -1,30 +1,32 @@
 //! Laws on records, each the contract of a function that does nothing.
-ghost use Rattle.std.specs.Prelude.{◌≡◌, ◌≢◌, ◌≤◌, ◌↔◌, ℕ, Bool, true, false, List, length};
+ghost use Rattle.std.specs.Prelude.{◌≡◌, ◌≢◌, ◌≤◌, ◌↔◌, ℕ, true, List, length};
 ghost use Rattle.std.specs.Prelude.{Option, Some};
 ghost use Rattle.page_check.specs.Told.{Told};
+ghost use Rattle.page_check.specs.declared.rules.DamagedPages.{DamagedPages};
+ghost use Rattle.page_check.specs.SynchronousAnswer.{AllowsMark};
 ghost use Rattle.aio_word.specs.declared.Class.TheVariants.{Unended};
 ghost use Rattle.read_callbacks.specs.declared.chain.Raw.{Raw};
 ghost use Rattle.read_callbacks.specs.declared.chain.CallbackId.{CallbackId};
 ghost use Rattle.read_callbacks.specs.Chain.{good_count, has_check_behind_file, ChecksBehindFile};
 ghost use Rattle.aio_callback.specs.ReadIoView.{ReadIoView, ReadFits, IsToldRead, HasAnswer};
 ghost use Rattle.aio_callback.specs.ReadIoView.{with_pages};
-ghost use Rattle.aio_callback.specs.ReadIoView.{record_aim, ReadsAs, record_zeroed};
+ghost use Rattle.aio_callback.specs.ReadIoView.{record_aim, ReadsAs, record_mark};
 ghost use Rattle.aio_callback.specs.StreamOutcomes.{stream_ids, IsStreamOutcome, given_count};
 
 /// A record with the callbacks of a stream has ended in one of six ways, and its good pages are as
-/// many as its owner gives in that case. None of them was zeroed unless damaged pages are.
+/// many as its owner gives in that case. The rule on damaged pages allows each of its marks.
 pub fn stream_records_end_in_six_ways()
-    ensures case { (told : Option Told) (relations : ℕ) (r : ReadIoView) (zero : Bool)
-        → ReadFits told relations r → r.label.ended ≢ Unended → r.ids ≡ stream_ids zero
-        → IsStreamOutcome zero told r }
-    ensures given { (r : ReadIoView) (zero : Bool) → r.ids ≡ stream_ids zero
+    ensures case { (told : Option Told) (relations : ℕ) (r : ReadIoView)
+        (damaged : DamagedPages) → ReadFits told relations r → r.label.ended ≢ Unended
+        → r.ids ≡ stream_ids damaged → IsStreamOutcome damaged told r }
+    ensures given { (r : ReadIoView) (damaged : DamagedPages) → r.ids ≡ stream_ids damaged
         → good_count r.ids r.result ≡ given_count r.result }
-    ensures not_zeroed { (told : Option Told) (relations : ℕ) (r : ReadIoView)
-        → ReadFits told relations r → r.label.ended ≢ Unended → r.ids ≡ stream_ids false
-        → (i : ℕ) → record_zeroed r i ≡ false }
+    ensures marks { (told : Option Told) (relations : ℕ) (r : ReadIoView)
+        (damaged : DamagedPages) → ReadFits told relations r → r.label.ended ≢ Unended
+        → r.ids ≡ stream_ids damaged → (i : ℕ) → AllowsMark damaged (record_mark r i) }
 {}
 
-/// Pages are checked exactly where a Buffer or ZeroBuffer is registered before a File. Callbacks
+/// Pages are checked exactly where a callback that checks them is registered before a File. Callbacks
 /// run from the last to the first, so it runs after that File.
 pub fn pages_are_checked_behind_a_file()
     ensures { (ids : List CallbackId) → (has_check_behind_file ids ≡ true) ↔ ChecksBehindFile ids }

@@ -8,9 +8,8 @@
 //!
 //! Contracts see a record as a `ReadIoView`. A record that *fits* what is told of the relations and
 //! has ended is *completed*: its result and its pages are what its callbacks, run from the last to
-//! the first, make of some raw answer and of the pages that were read, and its good pages are valid
-//! and those of their blocks, or zeros in place of bad ones. read_callbacks says what each callback
-//! does.
+//! the first, make of some raw answer and of the pages that were read, and its good pages are what
+//! their marks say. read_callbacks says what each callback does.
 #![tactic(auto)]
 
 pub mod laws;

@@ -14,7 +14,7 @@ ghost use Rattle.read_callbacks.specs.GoodPages.{IsGivenAs};
 use aio_handle::{Label, Record};
 use aio_result::{AioResult, Status};
 use aio_word::Class;
-use page_check::Page;
+use page_check::{Page, PageMark};
 use read_callbacks::{CallbackId, Raw, page_count, verifies_pages};
 use std::alloc::{AllocError, Global};
 use std::marker::Model;
@@ -46,8 +46,8 @@ pub struct ReadIo {
     // need not give it memory before.
     room: u32,
     pages: Vec<Page>,
-    // Which pages were set to zeros when the read ended.
-    zeroed: Vec<bool>,
+    // What was said of each page when the read ended.
+    marks: Vec<PageMark>,
 }
 
 impl Model for ReadIo {
@@ -70,7 +70,7 @@ impl Model for ReadIo {
       raw = r.raw;
       result = r.result;
       pages = row_of r.room r.pages.items;
-      zeroed = r.zeroed.items;
+      marks = r.marks.items;
     } };
 
     ghost invariant = { RecordInvariant };
@@ -143,7 +143,7 @@ fn fill_room(pages: &mut Vec<Page>, room: u32)
 }
 
 impl ReadIo {
-    ghost use Rattle.aio_callback.specs.ReadIoView.{record_page, record_zeroed, ReadFits};
+    ghost use Rattle.aio_callback.specs.ReadIoView.{record_page, record_mark, ReadFits};
     ghost use Rattle.aio_callback.specs.ReadIoView.{new_record, with_aim, with_pages};
 
     /// A record with `room` pages of zeros, 1 to 128, which it keeps for good. It is not aimed yet.
@@ -154,7 +154,7 @@ impl ReadIo {
         ensures { IfOk result (λ r. r ≡ new_record room) }
     {
         let pages = Vec::with_capacity(alloc, room as usize)?;
-        let zeroed = vec![in alloc; false; room as usize]?;
+        let marks = vec![in alloc; PageMark::Valid; room as usize]?;
         Ok(ReadIo {
             label: unended_label(0, 0),
             relation: 0,
@@ -173,7 +173,7 @@ impl ReadIo {
             },
             room,
             pages,
-            zeroed,
+            marks,
         })
     }
 
@@ -281,26 +281,26 @@ impl ReadIo {
         }
     }
 
-    /// A good page of a record that has ended: that of the block `first + index`, or zeros where
-    /// [`ReadIo::zeroed`] says so.
+    /// A good page of a record that has ended, for the block `first + index`. [`ReadIo::mark`] says
+    /// what it is.
     pub fn page(&self, index: u32) -> &Page
         requires ended { self.now.label.ended ≢ Unended }
         requires good { index < good_count self.now.ids self.now.result }
         ensures value { result.now ≡ record_page self.now index }
         ensures given { (told : Option Told) (relations : ℕ) → ReadFits told relations self.now
             → IsGivenAs told self.now.checksums self.now.relation (self.now.first + index) result.now
-            (record_zeroed self.now index) }
+            (record_mark self.now index) }
     {
         &self.pages[index as usize]
     }
 
-    /// Whether a good page of a record that has ended was bad and is zeros now, by
-    /// [`CallbackId::ZeroBuffer`].
-    pub fn zeroed(&self, index: u32) -> bool
+    /// What is said of a good page of a record that has ended. Bad ones were marked by
+    /// [`CallbackId::ZeroBuffer`] or [`CallbackId::MarkBuffer`].
+    pub fn mark(&self, index: u32) -> PageMark
         requires ended { self.now.label.ended ≢ Unended }
         requires good { index < good_count self.now.ids self.now.result }
-        ensures { result ≡ record_zeroed self.now index }
+        ensures { result ≡ record_mark self.now index }
     {
-        self.zeroed[index as usize]
+        self.marks[index as usize]
     }
 }

@@ -23,7 +23,11 @@ use Rattle.request_list.specs.RemainingRequests.{AsksForMap, map_page_count, res
 use Rattle.request_list.specs.RemainingRequests.{resolved_parts, resolved_request_parts}
 use Rattle.request_list.specs.RemainingRequests.{resolved_requests, resolved_settings}
 use Rattle.lister.specs.ListerState.{outcome_of_ending, unskipped_parts}
-use Rattle.run_report.specs.Output.{IsOutput, command_format, format_of_options}
+use Rattle.heap_scan.specs.Sums.{no_sums}
+use Rattle.heap_scan.specs.declared.sums.PageSums.{PageSums}
+use Rattle.run_report.specs.Output.{IsOutput, format_of_options}
+use Rattle.run_report.specs.Sums.{HasListed, IsSummedOutput, saturated_sums}
+use Rattle.lister.proofs.JobSumsAdd.{summed_alone}
 use Rattle.request_list.specs.RequestList.{map_pages_known}
 use Rattle.request_list.specs.RequestList.{Part, Request, block_range, blocks_of_parts, with_map}
 use Rattle.request_list.specs.RequestList.{with_map_part}
@@ -44,7 +48,8 @@ use Rattle.lister.proofs.UnskippedBlocksAppend.{resolved_unskipped, unskipped_no
 pub asks_for_map : (a : ResolvedCommand) (found : Option MapOfWords) (option : MapOfWords)
     → found ≡ Some option → option_map map_option_view found ≡ (a.command.now).map
     → IfSome (option_map map_option_view found)
-    (IsMapOf (a.command.now).generated (a.command.now).files) → AsksForMap a option.skip
+    (IsMapOf (a.command.now).generated (a.command.now).files (a.command.now).settings)
+    → AsksForMap a option.skip
 asks_for_map a found option some given of = record {
   map = map_option_view option;
   given = sym given ∙ ap (option_map map_option_view) some;
@@ -94,17 +99,23 @@ module _ (a : ResolvedCommand) (none : (a.command.now).map ≡ None) (told : Opt
       (map_pages_known told (page_rules (a.command.now).settings) given) (resolved_requests a)
       (resolved_parts a)
 
-  pub without_map : (b n : Option (List ℕ)) (o : Outcome) (w : List ℕ)
-      → IsOutput (format_of_options (options_of_settings (resolved_settings a))) told
-      (unskipped_parts None (resolved_parts a)) b n o w
-      → IsOutput (command_format a.command.now) told (resolved_request_parts a told given) b n o w
-  without_map b n o w lists =
+  abbrev options : ListOptions
+  options = options_of_settings (resolved_settings a)
+
+  pub without_map : (b n : Option (List ℕ)) (o : Outcome) (sums : PageSums) (w : List ℕ)
+      → IsSummedOutput (format_of_options options) told
+      (unskipped_parts None (resolved_parts a)) b n o no_sums sums w
+      → HasListed a.command.now told (resolved_request_parts a told given) b n o sums w
+  without_map b n o sums w listed =
       let P : Option MapOption → Type 0 =
-      λ x. IsOutput (format_with_map (options_of_settings (resolved_settings a)) x) told
-      (all_parts_with x) b n o w in
-      subst P (sym none)
-      (lists_same (format_of_options (options_of_settings (resolved_settings a))) told _ _ b n o w
-      (unskipped_none (resolved_parts a)) lists)
+      λ x. (lists : IsOutput (format_with_map options x) told (all_parts_with x) b n o w)
+      × (sums ≡ saturated_sums lists.sums) in
+      let Q : List Part → Type 0 =
+      λ l. (lists : IsOutput (format_of_options options) told l b n o w)
+      × (sums ≡ saturated_sums lists.sums) in
+      let as_asked = subst P (sym none) (subst Q (unskipped_none (resolved_parts a))
+      (listed.lists, summed_alone sums listed.lists.sums listed.sums_grew)) in
+      record { lists = as_asked.0; sums_are = λ _. as_asked.1 }
 
   pub as_many : length (resolved_request_list a told given) ≡ length (resolved_requests a)
   as_many = ap (λ (x : Option MapOption). length (all_with x)) none
@@ -135,13 +146,15 @@ module _ (a : ResolvedCommand) (by : MapOption) (with_it : (a.command.now).map �
   rest_parts = map (unmarked_entries (map mp (range_with_len 0 (map_page_count a))) by.skip)
       (resolved_parts a)
 
-  as_asked : (b n : Option (List ℕ)) (o : Outcome) (w : List ℕ)
+  as_asked : (b n : Option (List ℕ)) (o : Outcome) (sums : PageSums) (w : List ℕ)
       → IsOutput (format_with_map m (Some by)) told (parts_with (Some by)) b n o w
-      → IsOutput (command_format a.command.now) told (resolved_request_parts a told given) b n o w
-  as_asked b n o w lists =
+      → HasListed a.command.now told (resolved_request_parts a told given) b n o sums w
+  as_asked b n o sums w lists =
       let P : Option MapOption → Type 0 =
-      λ x. IsOutput (format_with_map m x) told (parts_with x) b n o w in
-      subst P (sym with_it) lists
+      λ x. IsOutput (format_with_map m x) told (parts_with x) b n o w in record {
+        lists = subst P (sym with_it) lists;
+        sums_are = λ none. absurd (let some = with_it in cc);
+      }
 
   asked_length : length (resolved_request_list a told given) ≡ map_page_count a + length rest
   asked_length =
@@ -153,11 +166,11 @@ module _ (a : ResolvedCommand) (by : MapOption) (with_it : (a.command.now).map �
   pages_asked = omega (arith, asked_length)
 
   -- reading the map stopped
-  pub map_stopped : (s : Option (List ℕ)) (o : Outcome) (w : List ℕ) → o ≢ Done
+  pub map_stopped : (s : Option (List ℕ)) (o : Outcome) (sums : PageSums) (w : List ℕ) → o ≢ Done
       → IsOutput (format_with_map m (Some by)) told (pages_read ∷ []) s s o w
-      → IsOutput (command_format a.command.now) told (resolved_request_parts a told given) s s o w
-  map_stopped s o w stops lists =
-      as_asked s s o w (lists_more (format_with_map m (Some by)) told (pages_read ∷ [])
+      → HasListed a.command.now told (resolved_request_parts a told given) s s o sums w
+  map_stopped s o sums w stops lists =
+      as_asked s s o sums w (lists_more (format_with_map m (Some by)) told (pages_read ∷ [])
       rest_parts s s o w stops lists)
 
   module _ (skip : Skip) (added : List (List ℕ)) (skip_is : by.skip ≡ skip)
@@ -188,21 +201,20 @@ module _ (a : ResolvedCommand) (by : MapOption) (with_it : (a.command.now).map �
         )
 
     -- the map was read, and then the jobs were listed
-    pub map_followed : (s n : Option (List ℕ)) (first last : Outcome) (v w : List ℕ)
-        → first ≡ Done → AreOf 0 (resolved_requests a)
+    pub map_followed : (s n : Option (List ℕ)) (first last : Outcome) (sums : PageSums)
+        (v w : List ℕ) → first ≡ Done → AreOf 0 (resolved_requests a)
         → IsOutput (format_with_map m (Some by)) told (pages_read ∷ []) s s first v
-        → IsOutput (format_of_options m) told kept_parts s n last w
-        → IsOutput (command_format a.command.now) told
-        (resolved_request_parts a told given) s n last (v ++ w)
-    map_followed s n first last v w done zero before jobs =
+        → IsSummedOutput (format_of_options m) told kept_parts s n last no_sums sums w
+        → HasListed a.command.now told (resolved_request_parts a told given) s n last sums (v ++ w)
+    map_followed s n first last sums v w done zero before jobs =
         let front = subst (λ (o : Outcome). IsOutput (format_with_map m (Some by))
         told (pages_read ∷ []) s s o v) done before in
         let skips : Option BlockFilter = Some (record { pages = added; skip = skip }) in
         let Z : List Request → Type 0 = λ l. AreOf 0 l in
         let back = jobs_listed m told (Some by) kept_parts s n last w
         (subst Z (sym (resolved_unskipped skips a))
-        (unskipped_of_relation 0 skips (resolved_requests a) zero)) jobs in
-        as_asked s n last (v ++ w)
+        (unskipped_of_relation 0 skips (resolved_requests a) zero)) jobs.lists in
+        as_asked s n last sums (v ++ w)
         (lists_same (format_with_map m (Some by)) told _ _ s n last (v ++ w) whole_in_parts
         (lists_append (format_with_map m (Some by)) told (pages_read ∷ []) kept_parts s s n last
         v w front back))

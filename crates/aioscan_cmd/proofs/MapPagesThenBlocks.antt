@@ -7,14 +7,14 @@ use Rattle.std.proofs.lemmas.List.{length-map, take_all}
 use Rattle.std.proofs.lemmas.List.FromFn.{length-range_with_len}
 use Rattle.page_check.specs.Told.{Told}
 use Rattle.page_check.specs.declared.rules.PageRules.{PageRules}
-use Rattle.page_check.specs.SynchronousAnswer.{Reader, End, found_page, reading_of, zeroing}
+use Rattle.page_check.specs.SynchronousAnswer.{Reader, End, found_page, reading_of}
 use Rattle.page_check.specs.SynchronousAnswer.{Known}
 use Rattle.page_check.specs.SynchronousAnswer.{found_at, entry_given, readable_pages, read_count}
 use Rattle.page_check.proofs.AnswersOfLists.{all_given, length_whole}
 use Rattle.heap_scan.specs.Job.{IsJobAnswer, block_entry}
-use Rattle.heap_scan.specs.Listing.{listing}
+use Rattle.heap_scan.specs.Listing.{PageFormat, listing}
 use Rattle.heap_scan.specs.Sums.{sums_of}
-use Rattle.heap_tuple.specs.Listing.{text_with}
+use Rattle.scan_settings.specs.PageFormats.{page_format}
 use Rattle.vis_map.specs.Bits.{Map}
 use Rattle.vis_map.specs.MapRequest.{greatest_of, unmarked_entries, needed_pages}
 use Rattle.scan_jobs.specs.Jobs.{answered_ending}
@@ -33,12 +33,16 @@ use Rattle.run_report.specs.declared.report.Outcome.{Outcome}
 use Rattle.run_report.proofs.CutsInParts.{cut_in_text, stopped_by}
 use Rattle.run_report.proofs.SinkTextsAppend.{SinkGrew-nothing, SinkGrew-same}
 use Rattle.lister.proofs.JobTextOutput.{text_listed}
-use Rattle.request_list.proofs.BlocksOfOneRelation.{AreOf, map_listing, other_listing, pages_are_of}
-use Rattle.request_list.proofs.BlocksOfOneRelation.{range_of, some_pages_of}
+use Rattle.request_list.proofs.BlocksOfOneRelation.{AreOf, ArePagesOf, map_listing, other_listing}
+use Rattle.request_list.proofs.BlocksOfOneRelation.{other_sums, pages_are_of, range_of}
+use Rattle.request_list.proofs.BlocksOfOneRelation.{some_pages_of}
 
 -- the way of a command with this map
 abbrev pub format_with_map : ListOptions → Option MapOption → ListFormat
-format_with_map m by = record { rules = m.rules; text_of = without_map_pages by (text_with m.tuples) }
+format_with_map m by = record {
+  rules = m.rules;
+  page_format = without_map_pages by (page_format m.page_text);
+}
 
 module _ (m : ListOptions) (told : Option Told) (s : Option (List ℕ)) where
   -- the pages of the map were read, up to this ending, and have no text
@@ -51,19 +55,19 @@ module _ (m : ListOptions) (told : Option Told) (s : Option (List ℕ)) where
   map_listed by may k found warnings end given =
       let found_by = reading_of m.rules told in
       let blocks = block_range 1 0 k in
-      let text_of = without_map_pages (Some by) (text_with m.tuples) in
+      let format = without_map_pages (Some by) (page_format m.page_text) in
       let pages_of_map = pages_are_of 1 found_by blocks given.pages (range_of 1 0 k)
       given.answers.first in
-      let answer : IsJobAnswer text_of found_by (λ _. ⊤) blocks [] warnings
-      (sums_of given.pages) (answered_ending end) = record {
+      let answer : IsJobAnswer format found_by (λ _. ⊤) blocks [] warnings
+      (sums_of format given.pages) (answered_ending end) = record {
         pages = given.pages;
-        text_is = sym (map_listing by (text_with m.tuples) given.pages pages_of_map);
+        text_is = sym (map_listing by (page_format m.page_text) given.pages pages_of_map);
         warnings_are = given.held.warnings_are;
         sums_are = refl;
         answers = answer_wider found_by may (λ _. ⊤) blocks _ (λ e may. tt) given.answers;
       } in
       (text_listed 1 blocks (range_of 1 0 k) (format_with_map m (Some by)) told [] warnings
-      (sums_of given.pages) s s end answer (SinkGrew-nothing s)
+      (sums_of format given.pages) s s end answer (SinkGrew-nothing s)
       (λ off. given.held.warnings_are ∙ none_warned given.pages (given.none_zeroed off))).0
 
 -- pages of relation 0 have the same text, whether or not there is a map
@@ -73,27 +77,30 @@ module _ (m : ListOptions) (told : Option Told) (by : Option MapOption) (xs : Li
   abbrev pages : List Page
   pages = lists.answer.pages
 
-  of_zero : (k n : ℕ) → listing (text_with m.tuples) (take n (drop k pages))
-      ≡ listing (without_map_pages by (text_with m.tuples)) (take n (drop k pages))
-  of_zero k n = other_listing by (text_with m.tuples) (take n (drop k pages))
-      (some_pages_of 0 k n pages
-      (pages_are_of 0 (reading_of m.rules told) (blocks_of_parts xs) pages all
-      lists.answer.answers.first))
+  abbrev format : PageFormat
+  format = page_format m.page_text
+
+  of_relation : ArePagesOf 0 pages
+  of_relation =
+      pages_are_of 0 (reading_of m.rules told) (blocks_of_parts xs) pages all
+      lists.answer.answers.first
+
+  of_zero : (k n : ℕ) → listing format (take n (drop k pages))
+      ≡ listing (without_map_pages by format) (take n (drop k pages))
+  of_zero k n =
+      other_listing by format (take n (drop k pages)) (some_pages_of 0 k n pages of_relation)
 
   pub jobs_listed : IsOutput (format_with_map m by) told xs b a o w
   jobs_listed = record {
-    not_refused = lists.not_refused;
+    ends_listing = lists.ends_listing;
     text = lists.text;
     all_warnings = lists.all_warnings;
     sums = lists.sums;
     answer = record {
       pages = lists.answer.pages;
-      text_is = lists.answer.text_is
-          ∙ other_listing by (text_with m.tuples) lists.answer.pages
-          (pages_are_of 0 (reading_of m.rules told) (blocks_of_parts xs) lists.answer.pages all
-          lists.answer.answers.first);
+      text_is = lists.answer.text_is ∙ other_listing by format pages of_relation;
       warnings_are = lists.answer.warnings_are;
-      sums_are = lists.answer.sums_are;
+      sums_are = lists.answer.sums_are ∙ other_sums by format pages of_relation;
       answers = lists.answer.answers;
     };
     named_block_is = lists.named_block_is;
@@ -102,10 +109,9 @@ module _ (m : ListOptions) (told : Option Told) (by : Option MapOption) (xs : Li
     pages_within = lists.pages_within;
     all = lists.all;
     stopped_behind = λ is.
-        (let text_of = text_with m.tuples in
-        let other = without_map_pages by text_of in
-        stopped_by text_of other xs xs pages pages b b a a o lists.whole lists.whole
-        (cut_in_text text_of other xs pages b a lists.whole of_zero)
+        (let other = without_map_pages by format in
+        stopped_by format other xs xs pages pages b b a a o lists.whole lists.whole
+        (cut_in_text format other xs pages b a lists.whole of_zero)
         (λ grew. SinkGrew-same b a _ _ (of_zero 0 lists.whole) grew) (lists.stopped_behind is));
     warnings_are = lists.warnings_are;
     no_warnings = lists.no_warnings;
@@ -154,7 +160,7 @@ added_known rules None may k found warnings given =
     sym (by_places [] found.added)
     ∙ ap (λ (n : ℕ). map (λ b. slice_index_or found.added b []) (range_with_len 0 n)) many
 added_known rules (Some t) may k found warnings given =
-    let f = zeroing rules.zero (found_at rules.checksums t) in
+    let f = found_at rules t in
     let blocks = block_range 1 0 k in
     let n = read_count f blocks in
     let end = given.answers.endings.0 in

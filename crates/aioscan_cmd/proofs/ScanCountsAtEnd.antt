@@ -21,7 +21,9 @@ use Rattle.aioscan_cmd.specs.Disks.{IsUnreadDisk}
 use Rattle.run_report.specs.Lengths.{HasAllLengths}
 use Rattle.run_report.specs.Outcomes.{is_refused}
 use Rattle.run_report.specs.Output.{WriteFaultsCounted, observed_state, command_format}
-use Rattle.run_report.specs.Run.{IsFileRun}
+use Rattle.heap_scan.specs.Sums.{no_sums}
+use Rattle.heap_scan.specs.declared.sums.PageSums.{PageSums}
+use Rattle.run_report.specs.Run.{IsListedRun}
 use Rattle.run_report.specs.Causes.{ScanHasOutcome, HasCauses, CallsInOrder}
 use Rattle.run_report.specs.Totals.{AreRunNumbers, NumbersAreReads, AreScanNumbers, no_numbers}
 use Rattle.request_list.specs.declared.cutter.ResolvedCommand.{ResolvedCommand}
@@ -29,7 +31,7 @@ use Rattle.run_report.specs.declared.report.Numbers.{Numbers}
 use Rattle.run_report.specs.declared.report.Outcome.{Outcome}
 use Rattle.run_report.specs.declared.report.Outcome.TheVariants.{Usage, CannotOpen}
 use Rattle.run_report.specs.declared.report.Outcome.TheVariants.{NoMemory}
-use Rattle.run_report.proofs.ListedRuns.{ran_listed, ran_on_shelf}
+use Rattle.run_report.proofs.ListedRuns.{listing_not_refused, ran_listed, ran_on_shelf}
 use Rattle.run_report.proofs.RefusedRuns.{ran_without_disk}
 use Rattle.aioscan_cmd.proofs.DiskCountsAdd.{none_behind}
 use Rattle.run_report.proofs.OutputsAppend.{lists_nothing}
@@ -84,13 +86,15 @@ is_refusal _ = inr (λ e. cc)
 
 module _ (asked : ResolvedCommand) (given : ℕ → List ℕ) (told : Option Told)
     (written now_written : Option (List ℕ)) (before opened : ShelfCounts) (faults reads : ℕ)
-    (o : Outcome) (w : List ℕ)
-    (scanned : ScanHasOutcome asked given told written now_written before opened faults reads o w)
+    (o : Outcome) (sums : PageSums) (w : List ℕ)
+    (scanned : ScanHasOutcome asked given told written now_written before opened faults reads o sums
+    w)
   where
     -- a disk could not be opened is the one refusal
     only_refusal : is_refused o ≡ true → o ≡ CannotOpen
     only_refusal is = ⊎_elim (λ e. e)
-        (λ not. absurd (refused_not o (scanned.lists not).not_refused is)) (is_refusal o)
+        (λ not. absurd (refused_not o (listing_not_refused o (scanned.lists not).lists.ends_listing)
+        is)) (is_refusal o)
 
     module _ (now : ShelfCounts) (opens : now.open_faults ≡ opened.open_faults) (lengths : ℕ)
         (length_rise : RisesIfPositive lengths opened.length_faults now.length_faults)
@@ -168,18 +172,18 @@ module _ (asked : ResolvedCommand) (given : ℕ → List ℕ) (told : Option Tol
         pub ended_ran : (disk_told : Option Told) (relations : ℕ) → told ≡ disk_told
             → relations ≡ length (command_relations asked.command.now)
             → HasAllLengths disk_told asked.segment relations asked.lengths.now
-            → IsFileRun disk_told relations asked.command.now (observed_state written before.reads)
-            (observed_state now_written now.reads) o w
+            → IsListedRun disk_told relations asked.command.now
+            (observed_state written before.reads) (observed_state now_written now.reads) o sums w
         ended_ran disk_told relations same all has =
             ⊎_elim
             (λ is. (let none = scanned.cannot_open is in
             let unread : now.reads ≡ before.reads = omega (arith, reads_raised, none.3) in
             rw (is, none.4, none.1, unread) (ran_without_disk disk_told relations asked.command.now
-            (observed_state written before.reads))))
+            (observed_state written before.reads) sums)))
             (λ not. ran_on_shelf disk_told disk_told relations relations asked.command.now written
-            now_written reads before.reads now.reads o w refl refl reads_raised
+            now_written reads before.reads now.reads o sums w refl refl reads_raised
             (ran_listed disk_told told asked.segment relations asked.command.now asked.lengths.now
-            given written now_written reads o w same all has (scanned.lists not) few_read))
+            given written now_written reads o sums w same all has (scanned.lists not) few_read))
             (is_refusal o)
 
 -- the numbers of a scan that was finished
@@ -201,12 +205,16 @@ pub scanned_nothing : (asked : ResolvedCommand) (given : ℕ → List ℕ) (told
     → before.open_faults ≤ now.open_faults
     → (now.length_faults ≡ before.length_faults) × (now.faults ≡ before.faults)
     × (now.reads ≡ before.reads)
-    → ScanHasOutcome asked given told s s before now faults reads NoMemory []
+    → ScanHasOutcome asked given told s s before now faults reads NoMemory no_sums []
+unfolding lists_nothing
 scanned_nothing asked given told s before now faults reads opens others = record {
   opens = opens;
   others = others;
-  lists = λ _. lists_nothing (command_format asked.command.now) told
-      (resolved_request_parts asked told given) s;
+  lists = λ _. record {
+    lists = lists_nothing (command_format asked.command.now) told
+        (resolved_request_parts asked told given) s;
+    sums_are = λ _. refl;
+  };
   cannot_open = λ refused. absurd (cc);
   unread = λ r b unread. absurd (cc);
 }
@@ -218,7 +226,7 @@ pub scan_refused : (asked : ResolvedCommand) (given : ℕ
     → (now.length_faults ≡ before.length_faults) × (now.faults ≡ before.faults)
     × (now.reads ≡ before.reads)
     → CountRose before.open_faults now.open_faults → faults ≡ 0 → reads ≡ 0
-    → ScanHasOutcome asked given told s s before now faults reads CannotOpen []
+    → ScanHasOutcome asked given told s s before now faults reads CannotOpen no_sums []
 scan_refused asked given told s before now faults reads others rose no_faults no_reads = record {
   opens = omega arith;
   others = others;
@@ -230,13 +238,13 @@ scan_refused asked given told s before now faults reads others rose no_faults no
 -- what a shelf has counted before the scan
 pub scanned_behind : (asked : ResolvedCommand) (given : ℕ → List ℕ) (told : Option Told)
     (written now_written : Option (List ℕ)) (first before now : ShelfCounts) (faults reads : ℕ)
-    (o : Outcome) (w : List ℕ) → first.open_faults ≤ before.open_faults
+    (o : Outcome) (sums : PageSums) (w : List ℕ) → first.open_faults ≤ before.open_faults
     → before.length_faults ≡ first.length_faults → before.faults ≡ first.faults
     → before.reads ≡ first.reads
-    → ScanHasOutcome asked given told written now_written before now faults reads o w
-    → ScanHasOutcome asked given told written now_written first now faults reads o w
-scanned_behind asked given told written now_written first before now faults reads o w opens lengths
-    read_faults read scanned = record {
+    → ScanHasOutcome asked given told written now_written before now faults reads o sums w
+    → ScanHasOutcome asked given told written now_written first now faults reads o sums w
+scanned_behind asked given told written now_written first before now faults reads o sums w opens
+    lengths read_faults read scanned = record {
       opens = omega (arith, scanned.opens);
       others = (
         scanned.others.0 ∙ lengths,

@@ -1,14 +1,14 @@
 //! Lists what is asked for, by the map where there is one.
-ghost use Rattle.std.specs.Prelude.{◌≡◌, ◌<◌, ◌≤◌, ◌+◌, ◌^◌, ℕ, List, length, None};
+ghost use Rattle.std.specs.Prelude.{◌≡◌, ◌<◌, ◌≤◌, ◌+◌, ◌^◌, ℕ, List, length};
 ghost use Rattle.scan_rounds.specs.Rounds.{results_taken_count};
 ghost use Rattle.scan_rounds.specs.Scans.{IsScan, IsSameScan, scan_options};
 ghost use Rattle.command_line.specs.Command.{options_of_settings};
 ghost use Rattle.request_list.specs.RemainingRequests.{IsResolved, resolved_request_list};
-ghost use Rattle.request_list.specs.RemainingRequests.{resolved_request_parts, resolved_requests};
+ghost use Rattle.request_list.specs.RemainingRequests.{resolved_request_parts};
 ghost use Rattle.request_list.specs.RemainingRequests.{resolved_settings};
 ghost use Rattle.run_report.specs.ErrorLine.{AppendsWarnings, error_stream};
-ghost use Rattle.run_report.specs.Output.{IsOutput, WriteFaultsCounted, command_format};
-ghost use Rattle.run_report.specs.Sums.{HasSums};
+ghost use Rattle.run_report.specs.Output.{WriteFaultsCounted};
+ghost use Rattle.run_report.specs.Sums.{HasListed};
 
 use crate::list_jobs::list_jobs;
 use crate::{Line, Outcome};
@@ -52,9 +52,9 @@ pub(crate) fn list_asked<
     ensures scan { IsScan D.Disk W.World scan.new }
     ensures same { IsSameScan scan.old scan.new }
     ensures listed { (given : ℕ → List ℕ)
-        × AppendsWarnings (IsOutput (command_format asked.entry.command.now) W.told
+        × AppendsWarnings (HasListed asked.entry.command.now W.told
         (resolved_request_parts asked.entry W.told given) (O.written out.old) (O.written out.new)
-        result.0)
+        result.0 result.2)
         (error_stream Line.Whole (E.written err.old) (E.faults err.old))
         (error_stream result.1 (E.written err.new) (E.faults err.new))
         × (results_taken_count scan.new.backends.items
@@ -62,9 +62,6 @@ pub(crate) fn list_asked<
         + length (resolved_request_list asked.entry W.told given)) }
     ensures writes { WriteFaultsCounted (O.faults out.old) (O.faults out.new) result.0 }
     ensures unread { (r b : ℕ) → result.0 ≡ Outcome.Unread r b → 0 < scan.new.unread }
-    ensures sums { result.0 ≡ Outcome.Done → (asked.entry.command.now).map ≡ None
-        → HasSums (options_of_settings (resolved_settings asked.entry)) W.told
-        (resolved_requests asked.entry) result.2 }
 {
     let option = match asked.command.map() {
         Some(option) => option,

@@ -3,11 +3,12 @@ ghost use Rattle.std.specs.Prelude.{◌≡◌, ℕ, IfOk, Some, string_bytes};
 ghost use Rattle.aio_disk.specs.Counts.{ShelfCounts};
 ghost use Rattle.command_line.specs.Command.{AsksForGeneratedPages};
 ghost use Rattle.run_report.specs.Run.{summary_line};
-ghost use Rattle.run_report.specs.Output.{OutputGrew, WriteFaultsCounted, observed_state};
-ghost use Rattle.run_report.specs.Run.{IsGeneratedOutcome, IsGeneratedRun};
+ghost use Rattle.run_report.specs.Output.{WriteFaultsCounted, observed_state};
+ghost use Rattle.run_report.specs.Run.{IsGeneratedRun};
 ghost use Rattle.run_report.specs.ErrorLine.{AppendsWarnings, error_stream};
 ghost use Rattle.run_report.specs.Totals.{AreRunNumbers};
 
+use crate::conclusion::write_closing;
 use crate::scan::list_files;
 use crate::{Line, Outcome};
 use aio_disk::{Sink, WriteFault};
@@ -39,24 +40,13 @@ impl Sink for NullSink {
 fn summary(alloc: Global, sums: PageSums) -> Result<String, AllocError>
     ensures { IfOk result (λ text. string_bytes text ≡ summary_line sums) }
 {
-    let PageSums { pages, zero, items } = sums;
+    let PageSums {
+        pages,
+        zero,
+        items,
+        ..
+    } = sums;
     format!(in alloc; "pages {pages} new {zero} items {items}\n")
-}
-
-// Writes the line of these sums by one write.
-fn write_summary<O: Sink>(alloc: Global, sums: PageSums, out: &mut O) -> Outcome
-    ensures output_grew { OutputGrew result (O.written out.old) (O.written out.new) (summary_line sums) }
-    ensures writes { WriteFaultsCounted (O.faults out.old) (O.faults out.new) result }
-    ensures ends { IsGeneratedOutcome result }
-{
-    let Ok(text) = summary(alloc, sums) else {
-        return Outcome::NoMemory;
-    };
-    match out.write(text.as_str().as_bytes()) {
-        Ok(()) => Outcome::Done,
-        Err(WriteFault::Device) => Outcome::CannotWrite,
-        Err(WriteFault::Memory) => Outcome::NoMemory,
-    }
 }
 
 /// Scans so many generated pages, and writes the line of their sums.
@@ -69,7 +59,7 @@ pub(crate) fn list_generated<O: Sink, E: Sink, R: Threads + Wait + Sync>(
     err: &mut E,
 ) -> RunEnd
     requires generated { AsksForGeneratedPages pages command.now }
-    ensures ran { AppendsWarnings (λ warnings. (k : ℕ) → IsGeneratedRun command.now.settings.zero
+    ensures ran { AppendsWarnings (λ warnings. (k : ℕ) → IsGeneratedRun command.now.settings.damaged
         pages
         (observed_state (O.written out.old) k) (observed_state (O.written out.new) k)
         result.outcome warnings) (error_stream Line.Whole (E.written err.old) (E.faults err.old))
@@ -84,7 +74,7 @@ pub(crate) fn list_generated<O: Sink, E: Sink, R: Threads + Wait + Sync>(
     let end = list_files(rt, alloc, command, &mut shelf, &mut NullSink, err);
     if end.outcome.is_done() {
         return RunEnd {
-            outcome: write_summary(alloc, end.sums, out),
+            outcome: write_closing(summary(alloc, end.sums), Outcome::Done, out),
             ..end
         };
     }

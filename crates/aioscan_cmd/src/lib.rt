@@ -11,6 +11,7 @@
 #![tactic(auto)]
 
 mod by_map;
+mod conclusion;
 mod disks;
 mod generated_scan;
 mod lengths;

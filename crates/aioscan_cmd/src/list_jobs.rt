@@ -8,8 +8,9 @@ ghost use Rattle.request_list.specs.RemainingRequests.{IsResolved, resolved_part
 ghost use Rattle.request_list.specs.RemainingRequests.{resolved_requests, resolved_settings};
 ghost use Rattle.run_report.specs.ErrorLine.{AppendsWarnings, error_stream};
 ghost use Rattle.lister.specs.ListerState.{unskipped_parts};
-ghost use Rattle.run_report.specs.Output.{IsOutput, WriteFaultsCounted, format_of_options};
-ghost use Rattle.run_report.specs.Sums.{HasSums};
+ghost use Rattle.heap_scan.specs.Sums.{no_sums};
+ghost use Rattle.run_report.specs.Output.{WriteFaultsCounted, format_of_options};
+ghost use Rattle.run_report.specs.Sums.{IsSummedOutput};
 
 use crate::{Line, Outcome};
 use aio_disk::{Disk, Sink};
@@ -44,17 +45,13 @@ pub(crate) fn list_jobs<
     requires world { W.relations ≡ length asked.relations.now }
     ensures scan { IsScan D.Disk W.World scan.new }
     ensures same { IsSameScan scan.old scan.new }
-    ensures lists { AppendsWarnings (IsOutput
+    ensures lists { AppendsWarnings (IsSummedOutput
         (format_of_options (options_of_settings (resolved_settings asked.entry))) W.told
         (unskipped_parts (filter_of_skipping by_map.entry) (resolved_parts asked.entry))
-        (O.written out.old) (O.written out.new) result.0)
+        (O.written out.old) (O.written out.new) result.0 no_sums result.2)
         (error_stream line (E.written err.old) (E.faults err.old))
         (error_stream result.1 (E.written err.new) (E.faults err.new)) }
     ensures writes { WriteFaultsCounted (O.faults out.old) (O.faults out.new) result.0 }
-    ensures sums { result.0 ≡ Outcome.Done
-        → HasSums (options_of_settings (resolved_settings asked.entry)) W.told
-        (unskipped_entries (filter_of_skipping by_map.entry) (resolved_requests asked.entry))
-        result.2 }
     ensures results_bound { results_taken_count scan.new.backends.items
         ≤ results_taken_count scan.old.backends.items
         + length (unskipped_entries (filter_of_skipping by_map.entry) (resolved_requests
@@ -70,7 +67,7 @@ pub(crate) fn list_jobs<
         err,
         line,
         rules: settings.page_rules(),
-        tuples: settings.tuples,
+        page_text: settings.page_text,
         outcome: Outcome::Done,
         sums: PageSums::default(),
     };

@@ -11,6 +11,7 @@ ghost use Rattle.run_report.specs.ErrorLine.{IsErrorOutput, AppendsWarnings, err
 ghost use Rattle.run_report.specs.ErrorLine.{shows_totals};
 ghost use Rattle.run_report.specs.Totals.{AreRunNumbers, generated_page_count, report_numbers};
 
+use crate::conclusion::conclude;
 use crate::generated_scan::list_generated;
 use crate::scan::list_files;
 use crate::{Line, Outcome, Report};
@@ -46,7 +47,13 @@ fn run_command<S: Shelf, O: Sink, E: Sink, R: Threads + Wait + Sync>(
     ensures words { result.outcome ≢ Outcome.Usage }
 {
     match command.generated() {
-        None => list_files(rt, alloc, command, shelf, out, err),
+        None => {
+            let end = list_files(rt, alloc, command, shelf, out, err);
+            RunEnd {
+                outcome: conclude(alloc, command, end, out),
+                ..end
+            }
+        }
         Some(pages) => list_generated(rt, alloc, command, pages, out, err),
     }
 }
@@ -114,6 +121,9 @@ fn run<S: Shelf, O: Sink, E: Sink, R: Threads + Wait + Sync>(
 /// Once a share has come back, the text of each of its jobs goes to `out` by one write, in their
 /// order, up to the first that ended in a fault. Jobs behind that one may have been listed by then.
 /// With `--tuples` the text of a page has the headers of its tuples and its update chains too. With
+/// `--check` it is a line for each fault of the page, also of one that is not valid, and behind the
+/// last page the line of their sums is written. With `--show-damaged` a page that is not valid is
+/// listed by its header alone, and the listing goes on. With
 /// `--map` the first backend reads the pages of the map before any job, their warnings go to `err`
 /// by one write, and blocks that the map marks are not asked for; a fault of the map ends the run.
 /// With `--zero-damaged` an invalid page is listed as a page of zeros, and once the text of its job
@@ -197,7 +207,7 @@ fn status(outcome: Outcome) -> u8
 {
     match outcome {
         Outcome::Done => 0,
-        Outcome::Invalid(_, _) => 1,
+        Outcome::FaultsFound | Outcome::Invalid(_, _) => 1,
         Outcome::Usage => 2,
         Outcome::CannotOpen | Outcome::NoLength(_) | Outcome::Unread(_, _) => 3,
         Outcome::CannotWrite => 4,

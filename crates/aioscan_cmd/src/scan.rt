@@ -1,20 +1,20 @@
 //! Lists over opened disks what a command asks for.
 ghost use Rattle.std.specs.Prelude.{◌≡◌, ◌≢◌, ◌<◌, ◌≤◌, ◌+◌, ◌*◌, ℕ, List, length, sum_by};
-ghost use Rattle.std.specs.Prelude.{None, Some, true, vec_len, vec_capacity};
+ghost use Rattle.std.specs.Prelude.{None, true, vec_len, vec_capacity};
 ghost use Rattle.std.specs.List.{All};
 ghost use Rattle.aio_disk.specs.Shelf.{AllThereIfTold, shelf_told};
 ghost use Rattle.scan_settings.specs.Settings.{required_disks};
-ghost use Rattle.command_line.specs.Command.{options_of_settings, command_relations};
+ghost use Rattle.command_line.specs.Command.{command_relations};
 ghost use Rattle.request_list.specs.RemainingRequests.{IsResolved, resolved_request_parts};
-ghost use Rattle.request_list.specs.RemainingRequests.{resolved_requests, resolved_settings};
+ghost use Rattle.request_list.specs.RemainingRequests.{resolved_settings};
 ghost use Rattle.aioscan_cmd.specs.Disks.{IsUnreadDisk};
-ghost use Rattle.run_report.specs.Output.{IsOutput, WriteFaultsCounted, command_format};
+ghost use Rattle.run_report.specs.Output.{WriteFaultsCounted};
 ghost use Rattle.run_report.specs.Output.{observed_state};
-ghost use Rattle.run_report.specs.Run.{IsFileRun};
+ghost use Rattle.run_report.specs.Run.{IsListedRun};
 ghost use Rattle.run_report.specs.Causes.{ScanHasOutcome, HasCauses, CallsInOrder};
 ghost use Rattle.run_report.specs.Causes.{DisksWereOpened};
 ghost use Rattle.run_report.specs.ErrorLine.{AppendsWarnings, error_stream};
-ghost use Rattle.run_report.specs.Sums.{HasSums, HasSumsTold};
+ghost use Rattle.run_report.specs.Sums.{HasListed};
 ghost use Rattle.run_report.specs.Totals.{AreRunNumbers, AreScanNumbers};
 
 use crate::by_map::list_asked;
@@ -48,9 +48,9 @@ fn list_disks<W: World + Send + Sync, D: Disk, O: Sink, E: Sink, R: Threads + Wa
     requires handles { (resolved_settings asked).backends * (resolved_settings asked).handles
         ≡ W.handles }
     ensures listed { (given : ℕ → List ℕ)
-        × AppendsWarnings (IsOutput (command_format asked.entry.command.now) W.told
+        × AppendsWarnings (HasListed asked.entry.command.now W.told
         (resolved_request_parts asked.entry W.told given) (O.written out.old) (O.written out.new)
-        result.1.outcome)
+        result.1.outcome result.1.sums)
         (error_stream Line.Whole (E.written err.old) (E.faults err.old))
         (error_stream result.1.line (E.written err.new) (E.faults err.new))
         × AreScanNumbers asked.entry W.told given D.reads result.0.items result.1.numbers }
@@ -58,9 +58,6 @@ fn list_disks<W: World + Send + Sync, D: Disk, O: Sink, E: Sink, R: Threads + Wa
     ensures writes { WriteFaultsCounted (O.faults out.old) (O.faults out.new) result.1.outcome }
     ensures unread { (r b : ℕ) → result.1.outcome ≡ Outcome.Unread r b
         → 0 < sum_by D.faults result.0.items }
-    ensures sums { result.1.outcome ≡ Outcome.Done → (asked.entry.command.now).map ≡ None
-        → HasSums (options_of_settings (resolved_settings asked.entry)) W.told
-        (resolved_requests asked.entry) result.1.sums }
 {
     let settings = asked.settings();
     let mut scan = match Scan::<W, D>::open(alloc, &settings, disks) {
@@ -106,14 +103,11 @@ fn open_and_list<W: World + Send + Sync, S: Shelf, O: Sink, E: Sink, R: Threads 
         W.told
         (O.written out.old) (O.written out.new) (S.counts shelf.old) (S.counts shelf.new)
         (sum_by S.Disk.faults result.0.items) (sum_by S.Disk.reads result.0.items)
-        result.1.outcome)
+        result.1.outcome result.1.sums)
         (error_stream Line.Whole (E.written err.old) (E.faults err.old))
         (error_stream result.1.line (E.written err.new) (E.faults err.new))
         × AreScanNumbers asked.entry W.told given S.Disk.reads result.0.items result.1.numbers }
     ensures writes { WriteFaultsCounted (O.faults out.old) (O.faults out.new) result.1.outcome }
-    ensures sums { result.1.outcome ≡ Outcome.Done → (asked.entry.command.now).map ≡ None
-        → HasSums (options_of_settings (resolved_settings asked.entry)) W.told
-        (resolved_requests asked.entry) result.1.sums }
     ensures sure { S.surely_opens shelf.old asked.entry.relations.now ≡ true
         → result.1.outcome ≢ Outcome.CannotOpen }
     ensures told { S.told shelf.new ≡ S.told shelf.old }
@@ -137,11 +131,12 @@ pub(crate) fn list_files<S: Shelf, O: Sink, E: Sink, R: Threads + Wait + Sync>(
     out: &mut O,
     err: &mut E,
 ) -> RunEnd
-    ensures ran { AppendsWarnings (IsFileRun (shelf_told (S.told shelf.old) (command_relations
+    ensures ran { AppendsWarnings (IsListedRun (shelf_told (S.told shelf.old) (command_relations
         command.now))
         (length (command_relations command.now)) command.now
         (observed_state (O.written out.old) (S.counts shelf.old).reads)
-        (observed_state (O.written out.new) (S.counts shelf.new).reads) result.outcome)
+        (observed_state (O.written out.new) (S.counts shelf.new).reads) result.outcome
+        result.sums)
         (error_stream Line.Whole (E.written err.old) (E.faults err.old))
         (error_stream result.line (E.written err.new) (E.faults err.new)) }
     ensures causes { HasCauses (S.counts shelf.old) (S.counts shelf.new) (O.faults out.old)
@@ -149,9 +144,6 @@ pub(crate) fn list_files<S: Shelf, O: Sink, E: Sink, R: Threads + Wait + Sync>(
     ensures order { CallsInOrder (S.counts shelf.old) (S.counts shelf.new) result.outcome }
     ensures counted { AreRunNumbers None (Some command.now)
         (S.counts shelf.old) (S.counts shelf.new) result.outcome result.numbers }
-    ensures sums { HasSumsTold (shelf_told (S.told shelf.old) (command_relations command.now))
-        command.now
-        result.outcome result.sums }
     ensures sure { S.surely_opens shelf.old (command_relations command.now) ≡ true
         → result.outcome ≢ Outcome.CannotOpen }
     ensures told { S.told shelf.new ≡ S.told shelf.old }

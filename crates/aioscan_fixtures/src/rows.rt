@@ -9,7 +9,7 @@
 //! | and checksums | `f:E@25952,2E@own` gives the first page this checksum, and the others that of the block which they are in their file |
 //! | and faults | `open=2`, `length=1`, `read=3`: this call fails, of the first disk; `short=1`: its next read gives one page at most; `out=2`: this write of the output fails; `segment=4` |
 //! | the words of the line | |
-//! | the listing | `0/2` and `0/3-9` are empty pages of relation 0, `0/5=new` is a page of zeros |
+//! | the listing | `0/2` and `0/3-9` are empty pages of relation 0, `0/5=new` is a page of zeros, `0/5=F` a damaged page `F`; or lines behind a colon, with semicolons between them |
 //! | what is said | lines, with semicolons between them; `totals 4` are those of four I/Os by backends |
 //! | the status | |
 //! | the reads | `1/3+4=2`: of relation 1, from block 3 on, four pages were asked for, and two came; or `none` |

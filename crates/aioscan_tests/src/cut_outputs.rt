@@ -14,12 +14,14 @@ use std::sync::Wait;
 use std::test::Fail;
 use std::thread::Threads;
 
-const ROWS: [&str; 4] = [
+const ROWS: [&str; 5] = [
     "the third write takes nothing | f:200E out=3 | --stats f | 0/0-127 | \
      cannot write; totals 24 | 4",
     "nothing is written of a first page that is invalid | f:DE out=1 | f | | invalid page 0 0 | 1",
     "a warning of a text that was written whole | f:D64E out=2 | --zero-damaged f | \
      0/0=new 0/1-63 | zeroed page 0 0; cannot write | 4",
+    "a damaged page of a text that was written whole | f:D64E out=2 | --show-damaged f | \
+     0/0=D 0/1-63 | cannot write | 4",
     "a warning of the map | f:2E m:D out=1 | --zero-damaged --map m f | | \
      zeroed page 1 0; cannot write | 4",
 ];
@@ -66,7 +68,7 @@ impl Sink for FullSink {
 // next write finds none shows all else as it was.
 type Row = (&'static str, &'static str, u64, &'static str, &'static str);
 
-const WITHOUT_MEMORY: [Row; 3] = [
+const WITHOUT_MEMORY: [Row; 6] = [
     ("200E", "--stats f", 2, "0/0-127", "out of memory\n"),
     (
         "D64E",
@@ -81,6 +83,21 @@ const WITHOUT_MEMORY: [Row; 3] = [
         0,
         "",
         "zeroed page 1 0\nout of memory\n",
+    ),
+    (
+        "D64E",
+        "--show-damaged f",
+        1,
+        "0/0=D 0/1-63",
+        "out of memory\n",
+    ),
+    ("DE", "--check f", 0, "", "out of memory\n"),
+    (
+        "DE",
+        "--check f",
+        1,
+        ": fault 0 0 header flags 0 lower 0 upper 0 special 0",
+        "out of memory\n",
     ),
 ];
 

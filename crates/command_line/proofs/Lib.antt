@@ -1,4 +1,5 @@
+pub mod GivenTogether
 pub mod GrammarRulesAppend
-pub mod WordValues
 pub mod MapWords
 pub mod ParseClauses
+pub mod WordValues

@@ -1,12 +1,15 @@
 -- What the words of a command ask for.
 use Rattle.std.specs.Prelude.{ℕ, List, [], ◌∷◌, ◌≡◌, ◌≤◌, Option, Some, None, IfSome, ◌+◌, ◌-◌, ◌<◌}
-use Rattle.std.specs.Prelude.{Bool, false, not, unwrap_or, ◌*◌, ◌++◌}
+use Rattle.std.specs.Prelude.{Bool, false, not, unwrap_or, ◌*◌, ◌++◌, ◌≢◌}
 use Rattle.generated_pages.specs.GeneratedPages.{generated_file_name}
 use Rattle.std.specs.List.{filter, position_or_len}
 use Rattle.std.specs.Option.{option_map_or}
 use Rattle.std.specs.Str.{bytes_eq}
+use Rattle.page_check.specs.declared.rules.DamagedPages.TheVariants.{Give}
+use Rattle.page_faults.specs.declared.options.CheckOptions.{CheckOptions}
 use Rattle.scan_settings.specs.ListOptions.{ListOptions, list_options}
 use Rattle.scan_settings.specs.Settings.{page_rules}
+use Rattle.scan_settings.specs.declared.page_text.PageText.TheVariants.{Items, Faults}
 use Rattle.scan_settings.specs.declared.settings.ScanSettings.{ScanSettings}
 use Rattle.vis_map.specs.declared.map.Skip.{Skip}
 
@@ -30,7 +33,7 @@ pub record Command : Type 0 where
 
 -- the options of a listing by these settings
 abbrev pub options_of_settings : ScanSettings → ListOptions
-options_of_settings settings = list_options (page_rules settings) settings.tuples
+options_of_settings settings = list_options (page_rules settings) settings.page_text
 
 -- the numbers of blocks that `--from` and `--to` may give end below this: 16 segments of the
 -- greatest size
@@ -45,24 +48,34 @@ length_limit segment = 16 * segment
 abbrev pub generated_page_limit : ℕ
 generated_page_limit = 4096
 
+-- no fault of a page is told: a damaged one ends the listing, or is listed as one of zeros
+pub record TellsNoFault (settings : ScanSettings) : Type 0 where
+  pub none_given : settings.damaged ≢ Give
+  pub is_listing : (options : CheckOptions) → settings.page_text ≢ Faults options
+
 -- of generated pages all blocks are asked for, and their checksums are not verified: they have none
-abbrev pub HasNoRange : Option ℕ → Option ℕ → Option ℕ → Bool → Type 0
-HasNoRange None from to checksums = Unit {0}
-HasNoRange (Some n) from to checksums =
-    (1 ≤ n) × (n ≤ generated_page_limit) × (from ≡ None) × (to ≡ None) × (checksums ≡ false)
+abbrev pub HasNoRange : Option ℕ → Option ℕ → Option ℕ → ScanSettings → Type 0
+HasNoRange None from to settings = Unit {0}
+HasNoRange (Some n) from to settings =
+    (1 ≤ n) × (n ≤ generated_page_limit) × (from ≡ None) × (to ≡ None)
+    × (settings.checksums ≡ false) × (settings.page_text ≡ Items) × (settings.damaged ≢ Give)
 
 -- the command asks for all blocks of so many generated pages, which have no checksums
 abbrev pub AsksForGeneratedPages : ℕ → Command → Type 0
 AsksForGeneratedPages n command =
     (command.files ≡ generated_file_name ∷ []) × (command.from ≡ None) × (command.to ≡ None)
     × (n ≤ generated_page_limit) × (command.map ≡ None) × (command.settings.checksums ≡ false)
+    × (command.settings.page_text ≡ Items) × (command.settings.damaged ≢ Give)
 
--- the map is that of the one file, which has another name, and no pages are generated
-pub record IsMapOf (generated : Option ℕ) (files : List (List ℕ)) (map : MapOption) : Type 0 where
+-- the map is that of the one file, which has another name; no pages are generated, and no fault of
+-- a page is told
+pub record IsMapOf (generated : Option ℕ) (files : List (List ℕ)) (settings : ScanSettings)
+    (map : MapOption) : Type 0 where
   pub file : List ℕ
   pub one_file : files ≡ file ∷ []
   pub other_name : bytes_eq map.name file ≡ false
   pub none_made : generated ≡ None
+  pub no_fault : TellsNoFault settings
 
 -- a block number that is given is below the limit
 abbrev pub IsBelowIfGiven : Option ℕ → ℕ → Type 0

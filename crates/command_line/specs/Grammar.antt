@@ -36,13 +36,13 @@ abbrev pub option_names : List Text
 option_names =
     codes "method" ∷ codes "workers" ∷ codes "backends" ∷ codes "combine" ∷ codes "concurrency"
     ∷ codes "handles" ∷ codes "buffers" ∷ codes "from" ∷ codes "to" ∷ codes "make"
-    ∷ codes "map" ∷ codes "skip" ∷ []
+    ∷ codes "map" ∷ codes "skip" ∷ codes "end-lsn" ∷ codes "next-xid" ∷ []
 
 -- the flags
 abbrev pub flag_names : List Text
 flag_names =
     codes "batch" ∷ codes "full" ∷ codes "stats" ∷ codes "checksums" ∷ codes "zero-damaged"
-    ∷ codes "tuples" ∷ []
+    ∷ codes "tuples" ∷ codes "check" ∷ codes "show-damaged" ∷ []
 
 -- the command
 unfoldable pub the_command : App

@@ -1,46 +1,23 @@
 -- The words of a command: what they ask for, or that they are no command.
-use Rattle.std.specs.Prelude.{◌≡◌, ℕ, List, [], ◌∷◌, Option, Some, None, Bool, true, false, ◌&&◌, ◌||◌}
-use Rattle.std.specs.Prelude.{length, nat_le, if◌then◌else◌, not, unwrap_or, codes}
+use Rattle.std.specs.Prelude.{◌≡◌, ℕ, List, [], ◌∷◌, Option, Some, None, Bool, false, ◌&&◌, length}
+use Rattle.std.specs.Prelude.{nat_le, if◌then◌else◌, not, unwrap_or, codes, is_some}
 use Rattle.std.specs.List.{list_all}
-use Rattle.std.specs.Option.{option_map}
 use Rattle.std.specs.Str.{bytes_eq}
-use Rattle.std.specs.Char.{is_ascii_digit}
-use Rattle.std.specs.Str.Parse.{digits_value}
 use Rattle.clap.specs.Words.{Row, Text, fault_of, matches_of, first_of, all_of}
 use Rattle.command_line.specs.Grammar.{the_command}
 use Rattle.command_line.specs.Command.{Command, MapOption}
+use Rattle.command_line.specs.Numbers.{is_count, number_or, number_if_given, lsn_if_given}
+use Rattle.command_line.specs.PageOptions.{damaged_pages, page_text_with}
+use Rattle.command_line.specs.RefusedOptions.{are_refused}
 use Rattle.generated_pages.specs.GeneratedPages.{generated_file_name}
+use Rattle.command_line.specs.declared.words.given_options.GivenOptions.{GivenOptions}
 use Rattle.command_line.specs.declared.words.map_option.MapOption.{MapOption as MapOfWords}
+use Rattle.scan_settings.specs.declared.page_text.PageText.{PageText}
 use Rattle.scan_settings.specs.declared.settings.MethodKind.{MethodKind}
 use Rattle.scan_settings.specs.declared.settings.MethodKind.TheVariants as method
 use Rattle.scan_settings.specs.declared.settings.ScanSettings.{ScanSettings}
 use Rattle.vis_map.specs.declared.map.Skip.{Skip}
 use Rattle.vis_map.specs.declared.map.Skip.TheVariants as skip
-
--- at least one, and at most so many
-abbrev pub is_count : ℕ → ℕ → Bool
-is_count n most = nat_le 1 n && nat_le n most
-
--- 1 to 7 digits
-abbrev pub is_number : Text → Bool
-is_number word = is_count (length word) 7 && list_all is_ascii_digit word
-
--- the number of a text; None where it is none, or out of the range
-abbrev pub number_within : ℕ → ℕ → Text → Option ℕ
-number_within least most word =
-    if is_number word
-    && (nat_le least (digits_value 10 word) && nat_le (digits_value 10 word) most)
-    then Some (digits_value 10 word) else None
-
--- an option's number, or its default where the option is not given
-abbrev pub number_or : ℕ → ℕ → ℕ → Option Text → Option ℕ
-number_or least most default None = Some default
-number_or least most default (Some word) = number_within least most word
-
--- the number of an option that has no default
-abbrev pub number_if_given : ℕ → ℕ → Option Text → Option (Option ℕ)
-number_if_given least most None = Some None
-number_if_given least most (Some word) = option_map Some (number_within least most word)
 
 abbrev pub method_of : Option Text → Option MethodKind
 method_of None = Some method.Worker
@@ -89,10 +66,10 @@ NamesSource None rows = NamesFiles rows
 NamesSource (Some n) rows = Unit {0}
 
 -- the settings, where each option that they come from has a right value
-abbrev pub settings_with : Option MethodKind → Option ℕ → Option ℕ → Option ℕ → Option ℕ → Option ℕ
-    → Option ℕ → Bool → Bool → Bool → Bool → Bool → Option ScanSettings
-settings_with (Some m) (Some w) (Some n) (Some c) (Some o) (Some h) (Some b) batch full checksums
-    zero tuples =
+abbrev pub settings_with : GivenOptions → Option MethodKind → Option ℕ → Option ℕ → Option ℕ
+    → Option ℕ → Option ℕ → Option ℕ → Option PageText → Bool → Bool → Option ScanSettings
+settings_with given (Some m) (Some w) (Some n) (Some c) (Some o) (Some h) (Some b) (Some text)
+    batch full =
     Some (record {
       method = m;
       workers = w;
@@ -104,41 +81,18 @@ settings_with (Some m) (Some w) (Some n) (Some c) (Some o) (Some h) (Some b) bat
       batch = batch;
       full = full;
       segment = 131072;
-      checksums = checksums;
-      zero = zero;
-      tuples = tuples;
+      checksums = given.checksums;
+      damaged = damaged_pages given;
+      page_text = text;
     })
-settings_with _ _ _ _ _ _ _ _ _ _ _ _ = None
+settings_with _ _ _ _ _ _ _ _ _ _ _ = None
 
--- what is listed: files, or generated pages
-pub record Source : Type 0 where
-  pub from : Option ℕ
-  pub to : Option ℕ
-  pub files : List Text
-  pub generated : Option ℕ
-
-abbrev pub source_of_files : Option ℕ → Option ℕ → Option (List Text) → Option Source
-source_of_files from to None = None
-source_of_files from to (Some files) =
-    Some (record { from = from; to = to; files = files; generated = None })
-
--- either FILE words or `--make`, and `--make` with none of `--from`, `--to`, `--tuples` and
--- `--checksums`
-abbrev pub files_or_generated : Option ℕ → Option ℕ → Bool → Option ℕ → Option (List Text)
-    → Option Source
-files_or_generated from to of_files None words = source_of_files from to (valid_file_names words)
-files_or_generated None None false (Some n) None =
-    Some (record { from = None; to = None; files = generated_file_name ∷ []; generated = Some n })
-files_or_generated (Some from) to of_files (Some n) words = None
-files_or_generated None (Some to) of_files (Some n) words = None
-files_or_generated None None true (Some n) words = None
-files_or_generated None None false (Some n) (Some words) = None
-
-abbrev pub parsed_source : Option (Option ℕ) → Option (Option ℕ) → Bool → Option (Option ℕ)
-    → Option (List Text) → Option Source
-parsed_source (Some from) (Some to) of_files (Some generated) words =
-    files_or_generated from to of_files generated words
-parsed_source _ _ _ _ _ = None
+-- what is read: either FILE words or, with `--make`, generated pages
+abbrev pub parsed_files : Option (Option ℕ) → Option (List Text) → Option (List Text)
+parsed_files (Some None) words = valid_file_names words
+parsed_files (Some (Some n)) None = Some (generated_file_name ∷ [])
+parsed_files (Some (Some n)) (Some words) = None
+parsed_files None words = None
 
 -- the option that the code keeps, as contracts see it
 abbrev pub map_option_view : MapOfWords → MapOption
@@ -153,35 +107,56 @@ named_map file name None = None
 named_map file name (Some skip) =
     if is_map_of file name then Some (Some (record { name = name; skip = skip })) else None
 
--- `--map` beside one FILE word, so not with `--make`, and `--skip` with `--map` alone
+-- `--map` beside one FILE word, so not with `--make`
 abbrev pub parsed_map_option : Option Text → Option Text → Option (List Text)
     → Option (Option MapOption)
-parsed_map_option None None words = Some None
-parsed_map_option None (Some skip) words = None
+parsed_map_option None skip words = Some None
 parsed_map_option (Some name) skip (Some (file ∷ [])) = named_map file name (skip_of skip)
 parsed_map_option (Some name) skip _ = None
 
-abbrev pub command_with : Option Source → Option (Option MapOption) → Option ScanSettings → Bool
-    → Option Command
-command_with (Some source) (Some map) (Some settings) stats =
+abbrev pub command_with : Option (Option ℕ) → Option (Option ℕ) → Option (Option ℕ)
+    → Option (List Text) → Option (Option MapOption) → Option ScanSettings → Bool → Option Command
+command_with (Some from) (Some to) (Some generated) (Some files) (Some map) (Some settings) stats =
     Some (record {
-      from = source.from;
-      to = source.to;
-      files = source.files;
-      generated = source.generated;
+      from = from;
+      to = to;
+      files = files;
+      generated = generated;
       map = map;
       settings = settings;
       stats = stats;
     })
-command_with _ _ _ _ = None
+command_with _ _ _ _ _ _ _ = None
 
 -- what the values ask for that `clap` found in the words
 module _ (rows : List Row) where
   abbrev pub text_of : Text → Option Text
   text_of name = first_of name rows
 
+  -- which options are given, of those that do not go with all others
+  abbrev pub given_options : GivenOptions
+  given_options = record {
+    from = is_some (text_of (codes "from"));
+    to = is_some (text_of (codes "to"));
+    make = is_some (text_of (codes "make"));
+    map = is_some (text_of (codes "map"));
+    skip = is_some (text_of (codes "skip"));
+    checksums = is_set (text_of (codes "checksums"));
+    tuples = is_set (text_of (codes "tuples"));
+    zero_damaged = is_set (text_of (codes "zero-damaged"));
+    show_damaged = is_set (text_of (codes "show-damaged"));
+    check = is_set (text_of (codes "check"));
+    end_lsn = is_some (text_of (codes "end-lsn"));
+    next_xid = is_some (text_of (codes "next-xid"));
+  }
+
+  abbrev pub parsed_page_text : Option PageText
+  parsed_page_text = page_text_with given_options
+      (lsn_if_given (text_of (codes "end-lsn")))
+      (number_if_given 10 0 4294967295 (text_of (codes "next-xid")))
+
   abbrev pub parsed_settings : Option ScanSettings
-  parsed_settings = settings_with
+  parsed_settings = settings_with given_options
       (method_of (text_of (codes "method")))
       (number_or 1 32 3 (text_of (codes "workers")))
       (number_or 1 16 2 (text_of (codes "backends")))
@@ -189,24 +164,23 @@ module _ (rows : List Row) where
       (number_or 1 256 16 (text_of (codes "concurrency")))
       (number_or 1 64 16 (text_of (codes "handles")))
       (number_or 16 16384 128 (text_of (codes "buffers")))
+      parsed_page_text
       (is_set (text_of (codes "batch")))
       (is_set (text_of (codes "full")))
-      (is_set (text_of (codes "checksums")))
-      (is_set (text_of (codes "zero-damaged")))
-      (is_set (text_of (codes "tuples")))
 
   abbrev pub parsed_map : Option (Option MapOption)
   parsed_map = parsed_map_option (text_of (codes "map")) (text_of (codes "skip"))
       (all_of (codes "FILE") rows)
 
+  abbrev pub parsed_generated : Option (Option ℕ)
+  parsed_generated = number_if_given 7 1 4096 (text_of (codes "make"))
+
   abbrev pub parsed_command : Option Command
-  parsed_command = command_with
-      (parsed_source
-      (number_if_given 0 2097151 (text_of (codes "from")))
-      (number_if_given 0 2097151 (text_of (codes "to")))
-      (is_set (text_of (codes "tuples")) || is_set (text_of (codes "checksums")))
-      (number_if_given 1 4096 (text_of (codes "make")))
-      (all_of (codes "FILE") rows))
+  parsed_command = if are_refused given_options then None else command_with
+      (number_if_given 7 0 2097151 (text_of (codes "from")))
+      (number_if_given 7 0 2097151 (text_of (codes "to")))
+      parsed_generated
+      (parsed_files parsed_generated (all_of (codes "FILE") rows))
       parsed_map
       parsed_settings
       (is_set (text_of (codes "stats")))

@@ -1,22 +1,26 @@
 //! The words of a command.
 ghost use Rattle.std.specs.Prelude.{◌≡◌, ◌<◌, ◌≤◌, ◌+◌, map, length, None, Some, IfOk, IfErr};
-ghost use Rattle.std.specs.Prelude.{string_bytes, codes, true, IfSome, if◌then◌else◌, ◌||◌};
+ghost use Rattle.std.specs.Prelude.{string_bytes, codes, true, IfSome, if◌then◌else◌};
 ghost use Rattle.std.specs.Option.{option_map};
-ghost use Rattle.clap.specs.Words.{rows_of, found_of, all_of, first_of};
+ghost use Rattle.clap.specs.Words.{rows_of, found_of, all_of};
 ghost use Rattle.command_line.specs.Command.{number_limit, first_block, asked_count, IsBelowIfGiven};
-ghost use Rattle.command_line.specs.Command.{HasNoRange, AsksForGeneratedPages, IsMapOf};
-ghost use Rattle.command_line.specs.Command.{generated_page_limit};
+ghost use Rattle.command_line.specs.Command.{AsksForGeneratedPages, IsMapOf};
 ghost use Rattle.command_line.specs.Words.{parsed_command, command_of, source_files};
-ghost use Rattle.command_line.specs.Words.{files_or_generated, is_set, NamesSource, map_option_view};
+ghost use Rattle.command_line.specs.Words.{parsed_files, NamesSource, map_option_view};
 ghost use Rattle.scan_settings.specs.Settings.{AreValidScanSettings};
 
+mod given_options;
 mod grammar;
 mod map_option;
+mod numbers;
+mod settings;
 mod values;
 
 use clap::ArgMatches;
 use clap::error::ErrorKind;
+use given_options::given_options;
 pub use map_option::MapOption;
+use numbers::number_given;
 use scan_settings::ScanSettings;
 use std::alloc::Global;
 use std::marker::Model;
@@ -74,44 +78,21 @@ impl<'a> Model for Command<'a> {
 
     ghost invariant = { λ c. IsBelowIfGiven c.from number_limit × IsBelowIfGiven c.to number_limit
         × NamesSource c.generated (rows_of (found_of c.matches))
-        × HasNoRange c.generated c.from c.to c.settings.checksums
+        × HasNoRange c.generated c.from c.to c.settings
         × AreValidScanSettings c.settings
         × IfSome (option_map map_option_view c.map) (IsMapOf c.generated
-        (source_files c.generated (rows_of (found_of c.matches)))) };
+        (source_files c.generated (rows_of (found_of c.matches))) c.settings) };
 }
 
-// Whether an option is given that goes with FILE words alone.
-fn is_of_files(matches: &ArgMatches<'_>) -> bool
-    ensures { result ≡ (is_set (first_of (codes "tuples") (rows_of (found_of matches.now)))
-        || is_set (first_of (codes "checksums") (rows_of (found_of matches.now)))) }
-{
-    values::flag(matches, "tuples") || values::flag(matches, "checksums")
-}
-
-// Whether FILE words are listed, or generated pages, all of them, without an option that goes with
-// FILE words alone.
-fn is_source(
-    matches: &ArgMatches<'_>,
-    from: Option<u32>,
-    to: Option<u32>,
-    of_files: bool,
-    generated: Option<u32>,
-) -> bool
-    ensures source { files_or_generated from to of_files generated
-        (all_of (codes "FILE") (rows_of (found_of matches.now)))
-        ≡ (if result then Some (record {
-          from = from;
-          to = to;
-          files = source_files generated (rows_of (found_of matches.now));
-          generated = generated;
-        }) else None) }
-    ensures within { IfSome generated (λ n. (1 ≤ n) × (n ≤ generated_page_limit)) → result ≡ true
-        → NamesSource generated (rows_of (found_of matches.now))
-        × HasNoRange generated from to of_files }
+// Whether FILE words are read, or generated pages.
+fn is_source(matches: &ArgMatches<'_>, generated: Option<u32>) -> bool
+    ensures source { parsed_files (Some generated) (all_of (codes "FILE") (rows_of (found_of matches.now)))
+        ≡ (if result then Some (source_files generated (rows_of (found_of matches.now))) else None) }
+    ensures names { result ≡ true → NamesSource generated (rows_of (found_of matches.now)) }
 {
     match generated {
         None => values::names_files(matches),
-        Some(_) => from.is_none() && to.is_none() && !of_files && !values::has_files(matches),
+        Some(_) => !values::has_files(matches),
     }
 }
 
@@ -120,14 +101,18 @@ impl<'a> Command<'a> {
     fn from_matches(matches: ArgMatches<'a>) -> Option<Command<'a>>
         ensures { result ≡ parsed_command (rows_of (found_of matches.entry)) }
     {
-        let from = values::number_given(&matches, "from", 0, LAST_BLOCK)?;
-        let to = values::number_given(&matches, "to", 0, LAST_BLOCK)?;
-        let generated = values::number_given(&matches, "make", 1, MOST_GENERATED)?;
-        if !is_source(&matches, from, to, is_of_files(&matches), generated) {
+        let given = given_options(&matches);
+        if given.are_refused() {
+            return None;
+        }
+        let from = number_given(&matches, "from", 7, 0, LAST_BLOCK)?;
+        let to = number_given(&matches, "to", 7, 0, LAST_BLOCK)?;
+        let generated = number_given(&matches, "make", 7, 1, MOST_GENERATED)?;
+        if !is_source(&matches, generated) {
             return None;
         }
         let map = map_option::map_given(&matches)?;
-        let settings = values::settings(&matches)?;
+        let settings = settings::settings(&matches, given)?;
         let stats = values::flag(&matches, "stats");
         Some(Command {
             matches,
@@ -163,7 +148,7 @@ impl<'a> Command<'a> {
     pub fn map(&self) -> Option<MapOption<'a>>
         ensures map { option_map map_option_view result ≡ (self.now).map }
         ensures is { IfSome (option_map map_option_view result)
-            (IsMapOf (self.now).generated self.now.files) }
+            (IsMapOf (self.now).generated self.now.files (self.now).settings) }
     {
         self.map
     }
@@ -242,9 +227,8 @@ fn parse<'a>(alloc: Global, words: &'a [String]) -> Result<ArgMatches<'a>, Refus
 /// all words behind `--` are files.
 ///
 /// Words are refused for an option that is unknown or stands twice, and for a value that is missing
-/// or outside its range. A number has 1 to 7 digits; a FILE word is not empty. `--make` goes with
-/// no FILE word and with none of `--from`, `--to`, `--tuples`, `--checksums` and `--map`. `--map`
-/// goes with one FILE word, of another name, and `--skip` with `--map` alone.
+/// or outside its range. A FILE word is not empty. `--make` goes with no FILE word, and `--map` with
+/// one, of another name. Which options are refused together is said by `are_refused`.
 pub fn read_command<'a>(alloc: Global, words: &'a [String]) -> Result<Command<'a>, Refusal>
     ensures ok { IfOk result (λ c. command_of (map string_bytes words.now) ≡ Some c) }
     ensures err { IfErr result

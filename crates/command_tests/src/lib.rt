@@ -4,6 +4,8 @@
 #![tactic(auto)]
 
 #[cfg(test)]
+mod check_words;
+#[cfg(test)]
 mod map_words;
 #[cfg(test)]
 mod refused_words;

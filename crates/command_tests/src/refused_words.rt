@@ -1,5 +1,6 @@
 //! Words that are no command.
 use crate::words::is_command;
+use std::process::Abort;
 use std::test::Fail;
 
 const REFUSED: [&str; 69] = [
@@ -74,10 +75,64 @@ const REFUSED: [&str; 69] = [
     "-V f",
 ];
 
-#[test]
-fn refused_words(rt: HostRuntime) -> Result<(), Fail> {
-    for line in REFUSED {
+const REFUSED_CHECKS: [&str; 46] = [
+    "--check",
+    "--check --check f",
+    "--check=1 f",
+    "--check= f",
+    "--check --zero-damaged f",
+    "--check --show-damaged f",
+    "--check --tuples f",
+    "--check --make 3",
+    "--check --map m f",
+    "--show-damaged",
+    "--show-damaged --show-damaged f",
+    "--show-damaged=true f",
+    "--show-damaged --zero-damaged f",
+    "--show-damaged --make 3",
+    "--show-damaged --map m f",
+    "--end-lsn 1/1 f",
+    "--end-lsn 1/1 --show-damaged f",
+    "--check --end-lsn f",
+    "--check f --end-lsn",
+    "--check --end-lsn '' f",
+    "--check --end-lsn= f",
+    "--check --end-lsn 1 f",
+    "--check --end-lsn / f",
+    "--check --end-lsn 1/ f",
+    "--check --end-lsn /1 f",
+    "--check --end-lsn 1/1/1 f",
+    "--check --end-lsn 1//1 f",
+    "--check --end-lsn g/1 f",
+    "--check --end-lsn 1/g f",
+    "--check --end-lsn +1/1 f",
+    "--check --end-lsn 1/-1 f",
+    "--check --end-lsn 0x1/1 f",
+    "--check --end-lsn 000000001/1 f",
+    "--check --end-lsn 1/100000000 f",
+    "--check --end-lsn 1/1 --end-lsn 1/1 f",
+    "--next-xid 3 f",
+    "--next-xid 3 --tuples f",
+    "--check --next-xid f",
+    "--check --next-xid '' f",
+    "--check --next-xid= f",
+    "--check --next-xid +3 f",
+    "--check --next-xid -3 f",
+    "--check --next-xid 3x f",
+    "--check --next-xid 4294967296 f",
+    "--check --next-xid 00000000003 f",
+    "--check --next-xid 3 --next-xid 3 f",
+];
+
+fn check_refused<R: Abort + AllocGlobal>(rt: &R, lines: &[&str]) -> Result<(), Fail> {
+    for line in lines {
         assert!(rt; !is_command(rt.alloc(), line)?, "{line}");
     }
     Ok(())
+}
+
+#[test]
+fn refused_words(rt: HostRuntime) -> Result<(), Fail> {
+    check_refused(&rt, &REFUSED)?;
+    check_refused(&rt, &REFUSED_CHECKS)
 }

@@ -29,12 +29,10 @@ pub(crate) fn is_command(alloc: Global, line: &str) -> Result<bool, Fail> {
 /// A name, the words, and what they ask for: the method, how many workers and backends, how many
 /// blocks are combined, how many I/Os a backend has, its handles, the frames, the flags; the first
 /// block and how many of a file of 10 blocks; and the files.
-const ROWS: [&str; 13] = [
+const ROWS: [&str; 11] = [
     "a file alone; f; Worker 3 2 16 16 16 128, 0 10, f",
     "--combine=128; --combine=128 e; Worker 3 2 128 16 16 128, 0 10, e",
-    "--zero-damaged; e --zero-damaged; Worker 3 2 16 16 16 128 zero, 0 10, e",
     "--checksums; e --checksums; Worker 3 2 16 16 16 128 checksums, 0 10, e",
-    "--tuples; --tuples e; Worker 3 2 16 16 16 128 tuples, 0 10, e",
     "every option; --method sync --workers 4 --backends 5 --combine 6 --concurrency 7 \
      --handles 8 --buffers 19 --from 1 --to 3 --batch f; Sync 4 5 6 7 8 19 batch, 1 3, f",
     "options between and behind files; f --full g --to=12 h --from=12; \
@@ -61,8 +59,8 @@ fn command_text(alloc: Global, command: &Command<'_>) -> Result<String, Fail> {
         full,
         segment: _,
         checksums,
-        zero,
-        tuples,
+        damaged: _,
+        page_text: _,
     } = command.settings();
     let mut text = format!(in alloc; "{method:?} {workers} {backends} {combine}")?;
     write!(text, " {concurrency} {handles} {buffers}")?;
@@ -70,8 +68,6 @@ fn command_text(alloc: Global, command: &Command<'_>) -> Result<String, Fail> {
         (batch, " batch"),
         (full, " full"),
         (checksums, " checksums"),
-        (zero, " zero"),
-        (tuples, " tuples"),
     ];
     for (set, word) in flags {
         if set {

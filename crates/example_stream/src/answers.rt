@@ -17,6 +17,7 @@ fn print_answer<R: Print>(rt: &R, next: Next<'_, ()>) -> io::Result<()> {
     match next {
         Next::Page(_, block, _) => print!(rt; "{block} "),
         Next::Zeroed(_, block, _) => print!(rt; "{block} as zeros "),
+        Next::Damaged(_, block, _) => print!(rt; "{block} damaged "),
         Next::End => println!(rt; "end"),
         Next::Invalid(block) | Next::Unread(block) | Next::PastEnd(block) => {
             println!(rt; "no page {block}")

@@ -25,7 +25,9 @@ fn count_page(answer: Next<'_, ()>) -> Option<u16>
     ensures { (relation : ℕ) → result ≡ answer_items (synchronous_answer relation answer.entry) }
 {
     match answer {
-        Next::Page(page, _, _) | Next::Zeroed(page, _, _) => Some(count(page)),
+        Next::Page(page, _, _) | Next::Zeroed(page, _, _) | Next::Damaged(page, _, _) => {
+            Some(count(page))
+        }
         Next::End | Next::Invalid(_) | Next::Unread(_) | Next::PastEnd(_) => None,
     }
 }

@@ -19,7 +19,7 @@ use aio_handle::Table;
 use block_source::Range;
 use buf_pool::Pool;
 use method_sync::{Runner, SyncMethod};
-use page_check::{PageRules, World};
+use page_check::{DamagedPages, PageRules, World};
 use read_stream::{Desk, ReadStream, Settings};
 use std::io;
 use std::marker::Brand;
@@ -38,7 +38,7 @@ fn settings(full: bool) -> Settings
         segment: 131072,
         rules: PageRules {
             checksums: false,
-            zero: false,
+            damaged: DamagedPages::Refuse,
         },
     }
 }

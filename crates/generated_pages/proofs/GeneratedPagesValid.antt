@@ -12,6 +12,9 @@ use Rattle.page_check.proofs.Segments.{blocks_of_one, page_of_first}
 use Rattle.page_check.proofs.VerifiedPages.{verdict_as-off}
 use Rattle.page_check.specs.Verdict.{verdict_of}
 use Rattle.page_check.specs.LinePointers.{line_pointer_count}
+use Rattle.page_check.specs.declared.rules.PageRules.{PageRules}
+use Rattle.page_check.specs.declared.rules.DamagedPages.{DamagedPages}
+use Rattle.page_check.specs.declared.rules.PageMark.TheVariants.{Valid}
 use Rattle.page_check.specs.declared.verdict.Verdict.{Verdict}
 use Rattle.page_check.specs.declared.verdict.Verdict.TheVariants.{Zero, Sane, Bad}
 use Rattle.page_check.specs.SynchronousAnswer.{Page as FoundPage, found_at, found_by_verdict}
@@ -88,11 +91,11 @@ module _ (f : ℕ → List ℕ) (size : ℕ) (each : (b : ℕ) → length (f b) 
       ∙ ap (take size) (drop-append-add (f start) rest (size * b))
       ∙ piece_at (start + 1) n b (omega arith) ∙ ap f here
 
-found_valid : (verdict : Verdict) (page : List ℕ) → verdict ≢ Bad
-    → found_by_verdict verdict page ≡ FoundPage page
-found_valid Zero page valid = refl
-found_valid Sane page valid = refl
-found_valid Bad page valid = absurd (valid refl)
+found_valid : (damaged : DamagedPages) (verdict : Verdict) (page : List ℕ) → verdict ≢ Bad
+    → found_by_verdict damaged verdict page ≡ FoundPage Valid page
+found_valid damaged Zero page valid = refl
+found_valid damaged Sane page valid = refl
+found_valid damaged Bad page valid = absurd (valid refl)
 
 zeros_length : length (replicate {A = ℕ} 8192 0) ≡ 8192
 zeros_length = length-replicate {A = ℕ} 8192 0
@@ -144,12 +147,19 @@ page_of_generated pages block below =
     ∙ file_at pages block below
 
 -- and each gives its page
-pub found_of_generated : (pages block : ℕ) → pages ≤ 4096 → block < pages
-    → found_at false (generated_told pages) 0 block ≡ FoundPage (generated_page block)
+pub found_of_generated : (rules : PageRules) → rules.checksums ≡ false → (pages block : ℕ)
+    → pages ≤ 4096 → block < pages
+    → found_at rules (generated_told pages) 0 block ≡ FoundPage Valid (generated_page block)
 unfolding found_at
-found_of_generated pages block few below =
+found_of_generated rules off pages block few below =
     let count = generated_block_count pages few in
     let inside : nat_le pages block ≡ false = grind (arith, nat_tests) in
-    rw (count, inside, page_of_generated pages block below, verdict_as-off block (generated_page block))
-    (found_valid (verdict_of (generated_page block)) (generated_page block)
+    rw (
+      off,
+      count,
+      inside,
+      page_of_generated pages block below,
+      verdict_as-off block (generated_page block),
+    )
+    (found_valid rules.damaged (verdict_of (generated_page block)) (generated_page block)
     (generated_page_valid block))

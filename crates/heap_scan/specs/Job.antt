@@ -4,7 +4,7 @@ use Rattle.std.specs.Prelude.{◌≡◌, ℕ, List, [], ◌∷◌, map, Option, 
 use Rattle.std.specs.List.{range_with_len}
 use Rattle.page_check.specs.SynchronousAnswer.{Entry, Given, Ending, Reading}
 use Rattle.page_check.specs.IsAnswer.{IsAnswer}
-use Rattle.heap_scan.specs.Listing.{TextOf, listing}
+use Rattle.heap_scan.specs.Listing.{PageFormat, listing}
 use Rattle.heap_scan.specs.Warnings.{warnings_of}
 use Rattle.heap_scan.specs.Sums.{sums_of}
 use Rattle.heap_scan.specs.declared.sums.PageSums.{PageSums}
@@ -24,11 +24,11 @@ endings_of (Some end) = end ∷ []
 
 -- text, warnings and sums are those of pages that, with this ending, answer the blocks; each page
 -- has the text that is given for it
-pub record IsJobAnswer {P : Type 0} (text_of : TextOf) (found : Reading)
+pub record IsJobAnswer {P : Type 0} (format : PageFormat) (found : Reading)
     (may : Entry P → Type 0) (entries : List (Entry P)) (text warnings : List ℕ) (sums : PageSums)
     (end : Option Ending) : Type 0 where
   pub pages : List (Given P)
-  pub text_is : text ≡ listing text_of pages
+  pub text_is : text ≡ listing format pages
   pub warnings_are : warnings ≡ warnings_of pages
-  pub sums_are : sums ≡ sums_of pages
+  pub sums_are : sums ≡ sums_of format pages
   pub answers : IsAnswer found may entries (record { pages = pages; endings = endings_of end })

@@ -48,6 +48,18 @@ page_line relation block header items =
     ∷ codes " special " ∷ decimal header.special ∷ codes " items " ∷ decimal items
     ∷ codes "\n" ∷ [])
 
+-- `page R B damaged flags F lower L upper U special S`: all that is listed of a page that is not
+-- valid and is given as it is
+abbrev pub damaged_line : ℕ → ℕ → PageHeader → List ℕ
+damaged_line relation block header =
+    concat (codes "page " ∷ decimal relation ∷ codes " " ∷ decimal block
+    ∷ codes " damaged flags " ∷ decimal header.flags ∷ codes " lower " ∷ decimal header.lower
+    ∷ codes " upper " ∷ decimal header.upper ∷ codes " special " ∷ decimal header.special
+    ∷ codes "\n" ∷ [])
+
+unfoldable pub damaged_text_of : ℕ → ℕ → List ℕ → List ℕ
+damaged_text_of relation block page = damaged_line relation block (header_of page)
+
 -- the first line: by the verdict, that the page is new, or its header
 abbrev pub first_line_by : Verdict → ℕ → ℕ → List ℕ → List ℕ
 first_line_by Zero relation block page = new_line relation block

@@ -2,10 +2,11 @@
 //!
 //! `page_text` appends exactly the definition `page_text_of`, which is stated over the list of line
 //! pointers and decimal numbers, and two laws of that text stand beside it. `listing` is the text
-//! of many pages, by this or another text of a page. `warning_text` appends the line that warns of
-//! a page given as zeros, `warnings_of` are those of many pages. `tally` adds a page to sums over
-//! pages, the definition `sums_with_page`. What writes the pieces of a line is public, for texts
-//! that say more of a page.
+//! of many pages, by this or another text of a page. `damaged_text` appends the line of a page that
+//! is given although it is not valid. `warning_text` appends the line that warns of a page given as
+//! zeros, `warnings_of` are those of many pages. `tally` adds a page to sums over pages, the
+//! definition `sums_with_page`. What writes the pieces of a line is public, for texts that say more
+//! of a page.
 #![tactic(auto)]
 
 pub mod backward;
@@ -18,5 +19,5 @@ mod warning;
 
 pub use lines::{ITEM_ROOM, PAGE_ROOM, put_item, put_page_line};
 pub use sums::{PageSums, tally};
-pub use text::page_text;
+pub use text::{damaged_text, page_text};
 pub use warning::warning_text;

@@ -4,12 +4,12 @@ ghost use Rattle.page_check.specs.Fields.{header_of};
 ghost use Rattle.page_check.specs.Verdict.{IsValid};
 ghost use Rattle.page_check.specs.LinePointers.{line_pointer_count, line_pointer_of};
 ghost use Rattle.heap_scan.specs.PageText.{text_up_to, item_line, lines_from, page_line};
-ghost use Rattle.heap_scan.specs.PageText.{new_line};
+ghost use Rattle.heap_scan.specs.PageText.{new_line, damaged_line};
 
 use crate::backward::{
     put, put_item_word, put_number, put_short_number_blank, put_short_number_newline, put_word,
 };
-use page_check::{LinePointer, Page, count, header, line_pointer_at};
+use page_check::{LinePointer, Page, PageHeader, count, header, line_pointer_at};
 
 /// At most so many bytes has the line of a page.
 pub const PAGE_ROOM: usize = 96;
@@ -138,12 +138,29 @@ fn put_place(buf: &mut [u8], end: usize, relation: u32, block: u32) -> usize
     requires within { end ≤ length buf.old }
     ensures start { result ≤ end }
     ensures written { drop result buf.new ≡
-        codes "page " ++ (decimal relation ++ (codes " " ++ decimal block)) ++ drop end buf.old }
+        codes "page " ++ (decimal relation ++ (codes " " ++ (decimal block ++ drop end buf.old))) }
 {
     let at = put_number(buf, end, block);
     let at = put(buf, at, b" ");
     let at = put_number(buf, at, relation);
     put(buf, at, b"page ")
+}
+
+// ` lower L upper U special S`.
+fn put_bounds(buf: &mut [u8], end: usize, header: &PageHeader) -> usize
+    requires room { 50 ≤ end }
+    requires within { end ≤ length buf.old }
+    ensures start { (result ≤ end) × (end ≤ result + 38) }
+    ensures written { drop result buf.new ≡ codes " lower " ++ (decimal header.now.lower
+        ++ (codes " upper " ++ (decimal header.now.upper
+        ++ (codes " special " ++ (decimal header.now.special ++ drop end buf.old))))) }
+{
+    let at = put_number(buf, end, u32::from(header.special));
+    let at = put(buf, at, b" special ");
+    let at = put_number(buf, at, u32::from(header.upper));
+    let at = put(buf, at, b" upper ");
+    let at = put_number(buf, at, u32::from(header.lower));
+    put(buf, at, b" lower ")
 }
 
 /// Writes the line of a page that is not new, so that it ends at `end`.
@@ -155,16 +172,10 @@ pub fn put_page_line(buf: &mut [u8], end: usize, relation: u32, block: u32, page
         page_line relation block (header_of page.now) (line_pointer_count page.now)
         ++ drop end buf.old }
 {
-    let header = header(page);
     let at = put(buf, end, b"\n");
     let at = put_number(buf, at, u32::from(count(page)));
     let at = put(buf, at, b" items ");
-    let at = put_number(buf, at, u32::from(header.special));
-    let at = put(buf, at, b" special ");
-    let at = put_number(buf, at, u32::from(header.upper));
-    let at = put(buf, at, b" upper ");
-    let at = put_number(buf, at, u32::from(header.lower));
-    let at = put(buf, at, b" lower ");
+    let at = put_bounds(buf, at, &header(page));
     put_place(buf, at, relation, block)
 }
 
@@ -175,6 +186,20 @@ fn put_new_line(buf: &mut [u8], relation: u32, block: u32) -> usize
     ensures written { drop result buf.new ≡ new_line relation block }
 {
     let at = put(buf, buf.len(), b" new\n");
+    put_place(buf, at, relation, block)
+}
+
+/// Writes the line of a damaged page at the end of the buffer, and says where it starts.
+pub(crate) fn put_damaged_line(buf: &mut [u8], relation: u32, block: u32, page: &Page) -> usize
+    requires { 96 ≤ length buf.old }
+    ensures start { result ≤ length buf.new }
+    ensures written { drop result buf.new ≡ damaged_line relation block (header_of page.now) }
+{
+    let header = header(page);
+    let at = put(buf, buf.len(), b"\n");
+    let at = put_bounds(buf, at, &header);
+    let at = put_number(buf, at, u32::from(header.flags));
+    let at = put(buf, at, b" damaged flags ");
     put_place(buf, at, relation, block)
 }
 

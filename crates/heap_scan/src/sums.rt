@@ -1,12 +1,11 @@
 //! Sums over pages.
 ghost use Rattle.std.specs.Prelude.{◌≡◌};
-ghost use Rattle.page_check.specs.Verdict.{IsValid, verdict_of};
-ghost use Rattle.heap_scan.specs.Sums.{FitSums, sums_with_page, zero_page_count};
+ghost use Rattle.heap_scan.specs.Sums.{FitSums, sums_with_page};
 
-use page_check::{Page, count, header};
+use page_check::{Page, Verdict, check, count};
 
-/// How many pages were given, how many of them are all zeros, and how many line pointers they
-/// have.
+/// How many pages were given, how many of them are all zeros, how many line pointers they have, and
+/// how many faults were told of them.
 #[derive(Clone, Copy, Debug, Default, PartialEq, Eq)]
 pub struct PageSums {
     /// How many pages.
@@ -15,24 +14,21 @@ pub struct PageSums {
     pub zero: u64,
     /// How many line pointers they have.
     pub items: u64,
+    /// How many faults were told of them.
+    pub faults: u64,
 }
 
-// 1 for a page of zeros, 0 for another valid one: that is new exactly where its upper is 0, so the
-// check is not made again.
-fn zeros_of(page: &Page) -> u64
-    requires { IsValid page.now }
-    ensures { result ≡ zero_page_count (verdict_of page.now) }
-{
-    if header(page).upper == 0 { 1 } else { 0 }
-}
-
-/// Adds a valid page to the sums. It takes no memory.
-pub fn tally(page: &Page, sums: &mut PageSums)
-    requires valid { IsValid page.now }
-    requires fit { FitSums (sums_with_page sums.old page.now) }
-    ensures { sums.new ≡ sums_with_page sums.old page.now }
+/// Adds a page, of which so many faults were told, to the sums. Any page will do. It takes no
+/// memory.
+pub fn tally(page: &Page, faults: u32, sums: &mut PageSums)
+    requires { FitSums sums.old }
+    ensures { sums.new ≡ sums_with_page faults sums.old page.now }
 {
     sums.pages += 1;
-    sums.zero += zeros_of(page);
+    sums.zero += match check(page) {
+        Verdict::Zero => 1,
+        Verdict::Sane | Verdict::Bad => 0,
+    };
     sums.items += u64::from(count(page));
+    sums.faults += u64::from(faults);
 }

@@ -4,8 +4,9 @@ ghost use Rattle.page_check.specs.Verdict.{IsValid, verdict_of};
 ghost use Rattle.page_check.specs.LinePointers.{line_pointer_count};
 ghost use Rattle.page_check.specs.declared.verdict.Verdict.TheVariants.{Zero};
 ghost use Rattle.heap_scan.specs.PageText.{page_text_of, line_count, FirstLineTells};
+ghost use Rattle.heap_scan.specs.PageText.{damaged_text_of};
 
-use crate::lines::{ITEM_ROOM, PAGE_ROOM, put_first_lines, put_items};
+use crate::lines::{ITEM_ROOM, PAGE_ROOM, put_damaged_line, put_first_lines, put_items};
 use page_check::{Page, count};
 use std::alloc::AllocError;
 
@@ -75,4 +76,24 @@ pub fn page_text(
             Err(error)
         }
     }
+}
+
+/// Appends the line of a page that is not valid and is given as it is. Any page will do. On an
+/// error, which is want of memory, `out` holds what it held before.
+///
+/// It takes memory where `out` has to grow.
+#[tactic(auto, unfolding(crate::specs::PageText::damaged_text_of))]
+pub fn damaged_text(
+    relation: u32,
+    block: u32,
+    page: &Page,
+    out: &mut Vec<u8>,
+) -> Result<(), AllocError>
+    ensures ok { OnOk result
+        (out.new.items ≡ out.old.items ++ damaged_text_of relation block page.now) }
+    ensures err { OnErr result (out.new.items ≡ out.old.items) }
+{
+    let mut line = [0; PAGE_ROOM];
+    let start = put_damaged_line(&mut line, relation, block, page);
+    out.extend_from_slice(&line[start..])
 }

@@ -2,4 +2,3 @@ pub mod Tuples
 pub mod Chains
 pub mod ChainLengths
 pub mod TuplesText
-pub mod Listing

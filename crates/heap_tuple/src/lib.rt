@@ -2,8 +2,7 @@
 //!
 //! `tuple` and `step` are the definitions `tuple_of` and `step_of`, and `tuples_text` appends
 //! exactly `tuples_text_of`: what `heap_scan` lists of the page, a line for each tuple's header,
-//! and how many update chains there are and how long the longest is. `text_with` says which of the
-//! two texts a page has in a listing.
+//! and how many update chains there are and how long the longest is.
 #![tactic(auto)]
 
 mod chains;

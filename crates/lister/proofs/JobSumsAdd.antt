@@ -2,33 +2,33 @@
 use Rattle.std.proofs.Common.{◌≡◌, ◌≢◌, ℕ, ◌+◌, List, [], ◌++◌, refl, sym, ap, ◌∙◌, subst, arith}
 use Rattle.std.specs.Prelude.{Option, Some, None}
 use Rattle.page_check.specs.Told.{Told}
-use Rattle.page_check.specs.SynchronousAnswer.{found_at, zeroing}
-use Rattle.page_check.proofs.AnswersOfLists.{all_given}
-use Rattle.heap_scan.specs.Sums.{sums_joined, sums_of, no_sums}
+use Rattle.heap_scan.specs.Sums.{sums_joined, no_sums}
 use Rattle.heap_scan.specs.declared.sums.PageSums.{PageSums}
-use Rattle.scan_settings.specs.ListOptions.{ListOptions}
 use Rattle.scan_jobs.specs.declared.job.Ending.{Ending as JobEnding}
 use Rattle.scan_jobs.specs.declared.job.Ending.TheVariants as ending
 use Rattle.lister.specs.ListerState.{outcome_of_ending}
-use Rattle.run_report.specs.Output.{ListFormat, format_of_options}
-use Rattle.request_list.specs.RequestList.{Part, blocks_of_parts}
-use Rattle.run_report.specs.Sums.{saturated_count, saturated_sums, HasSums, IsSummedOutput}
+use Rattle.run_report.specs.Output.{ListFormat}
+use Rattle.request_list.specs.RequestList.{Part}
+use Rattle.run_report.specs.Sums.{saturated_count, saturated_sums, IsSummedOutput}
 use Rattle.run_report.specs.Sums.{SumsGrew}
 use Rattle.run_report.specs.declared.report.Outcome.{Outcome}
 use Rattle.run_report.specs.declared.report.Outcome.TheVariants.{Done}
 use Rattle.run_report.proofs.OutputsAppend.{lists_append, lists_more, lists_none}
 
-abbrev sums_with : ℕ → ℕ → ℕ → PageSums
-sums_with a b c = record { pages = a; zero = b; items = c }
+abbrev sums_with : ℕ → ℕ → ℕ → ℕ → PageSums
+sums_with a b c d = record { pages = a; zero = b; items = c; faults = d }
 
-pub same_sums : (x y : PageSums) → x.pages ≡ y.pages → x.zero ≡ y.zero → x.items ≡ y.items → x ≡ y
-same_sums x y pages zeros items =
-    ap (λ (n : ℕ). sums_with n x.zero x.items) pages
-    ∙ ap (λ (n : ℕ). sums_with y.pages n x.items) zeros
-    ∙ ap (λ (n : ℕ). sums_with y.pages y.zero n) items
+pub same_sums : (x y : PageSums) → x.pages ≡ y.pages → x.zero ≡ y.zero → x.items ≡ y.items
+    → x.faults ≡ y.faults → x ≡ y
+same_sums x y pages zeros items faults =
+    ap (λ (n : ℕ). sums_with n x.zero x.items x.faults) pages
+    ∙ ap (λ (n : ℕ). sums_with y.pages n x.items x.faults) zeros
+    ∙ ap (λ (n : ℕ). sums_with y.pages y.zero n x.faults) items
+    ∙ ap (λ (n : ℕ). sums_with y.pages y.zero y.items n) faults
 
-pub zero_sums : (s : PageSums) → (s.pages ≡ 0) × ((s.zero ≡ 0) × (s.items ≡ 0)) → s ≡ no_sums
-zero_sums s is = same_sums s no_sums is.0 is.1.0 is.1.1
+pub zero_sums : (s : PageSums)
+    → (s.pages ≡ 0) × ((s.zero ≡ 0) × ((s.items ≡ 0) × (s.faults ≡ 0))) → s ≡ no_sums
+zero_sums s is = same_sums s no_sums is.0 is.1.0 is.1.1.0 is.1.1.1
 
 -- what a job gave that ended a run in no fault
 pub ended_done : (r : ℕ) (end : JobEnding) → outcome_of_ending r end ≡ Done → end ≡ ending.Pages
@@ -41,14 +41,14 @@ ended_done r ending.NoMemory is = absurd (cc)
 -- nothing was added
 grew_none : (s : PageSums) → SumsGrew s s no_sums
 grew_none s total is =
-    is ∙ ap saturated_sums (same_sums _ _ (omega arith) (omega arith) (omega arith))
+    is ∙ ap saturated_sums (same_sums _ _ (omega arith) (omega arith) (omega arith) (omega arith))
 
 -- some sums and then others
 grew_then : (s t u a b : PageSums) → SumsGrew s t a → SumsGrew t u b
     → SumsGrew s u (sums_joined a b)
 grew_then s t u a b first second total is =
     second (sums_joined total a) (first total is)
-    ∙ ap saturated_sums (same_sums _ _ (omega arith) (omega arith) (omega arith))
+    ∙ ap saturated_sums (same_sums _ _ (omega arith) (omega arith) (omega arith) (omega arith))
 
 saturated_more : (a b t : ℕ) → a ≡ saturated_count t → saturated_count (a + b)
     ≡ saturated_count (t + b)
@@ -61,6 +61,7 @@ grew_by s t a added total is =
     (saturated_more s.pages a.pages total.pages (ap (λ (x : PageSums). x.pages) is))
     (saturated_more s.zero a.zero total.zero (ap (λ (x : PageSums). x.zero) is))
     (saturated_more s.items a.items total.items (ap (λ (x : PageSums). x.items) is))
+    (saturated_more s.faults a.faults total.faults (ap (λ (x : PageSums). x.faults) is))
 
 module _ (m : ListFormat) (told : Option Told) where
   pub summed_none : (b : Option (List ℕ)) (s : PageSums) → IsSummedOutput m told [] b b Done s s []
@@ -92,20 +93,9 @@ module _ (m : ListFormat) (told : Option Told) where
   summed_same xs ys b a o s t w same listed =
       let P : List Part → Type 0 = λ l. IsSummedOutput m told l b a o s t w in subst P same listed
 
--- where all was listed, the sums are those of all pages
-pub summed_told : (m : ListOptions) (told : Option Told) (parts : List Part)
-    (b a : Option (List ℕ)) (o : Outcome) (s : PageSums) (w : List ℕ) → o ≡ Done
-    → IsSummedOutput (format_of_options m) told parts b a o no_sums s w
-    → HasSums m told (blocks_of_parts parts) s
-summed_told m None parts b a o s w done listed = tt
-summed_told m (Some t) parts b a o s w done listed =
-    let P : Outcome → Type 0 =
-    λ x. IsSummedOutput (format_of_options m) (Some t) parts b a x no_sums s w in
-    let all = subst P done listed in
-    let answer = all.lists.answer in
-    let end = answer.answers.endings.0 in
-    let pages = all_given (zeroing m.rules.zero (found_at m.rules.checksums t)) (blocks_of_parts parts) answer.pages
-    answer.answers.first end.0 in
-    all.sums_grew no_sums refl
-    ∙ ap saturated_sums (same_sums _ all.lists.sums (omega arith) (omega arith) (omega arith)
-    ∙ answer.sums_are ∙ ap sums_of (sym pages))
+-- where nothing was added up before, the sums are those of the pages
+pub summed_alone : (sums added : PageSums) → SumsGrew no_sums sums added
+    → sums ≡ saturated_sums added
+summed_alone sums added grew =
+    grew no_sums refl
+    ∙ ap saturated_sums (same_sums _ added (omega arith) (omega arith) (omega arith) (omega arith))

@@ -7,7 +7,8 @@ use Rattle.std.proofs.lemmas.List.{take_all, length-map}
 use Rattle.std.proofs.lemmas.Option.{get_or_from_slice_get, slice_get_within}
 use Rattle.std.proofs.lemmas.List.Sums.{sum_by-cons}
 use Rattle.page_check.specs.Told.{Told}
-use Rattle.page_check.specs.SynchronousAnswer.{Reader, Found, Page as FoundPage, Zeroed, Damaged}
+use Rattle.page_check.specs.declared.rules.DamagedPages.TheVariants as damaged_pages
+use Rattle.page_check.specs.SynchronousAnswer.{Reader, Found, Page as FoundPage, BadPage}
 use Rattle.page_check.specs.SynchronousAnswer.{Reading, Known, Unknown}
 use Rattle.page_check.specs.SynchronousAnswer.{Absent, Ending, End, Invalid as SaidInvalid}
 use Rattle.page_check.specs.SynchronousAnswer.{PastEnd as SaidPastEnd, entry_found, found_ending}
@@ -25,7 +26,7 @@ use Rattle.scan_jobs.specs.declared.job.Ending.TheVariants as ending
 use Rattle.scan_jobs.specs.declared.job.Job.{Job}
 use Rattle.aio_disk.specs.Sink.{SinkGrew, SinkGrewByPrefix}
 use Rattle.request_list.specs.RequestList.{Page, Request, blocks_of_parts, request}
-use Rattle.run_report.specs.Outcomes.{outcome_ending, is_refused, named_block, is_output_cut_off}
+use Rattle.run_report.specs.Outcomes.{outcome_ending, can_end_listing, named_block, is_output_cut_off}
 use Rattle.run_report.specs.Output.{OutputGrew, IsOutput, WriteFaultsCounted, ListFormat}
 use Rattle.run_report.specs.Output.{format_of_options}
 use Rattle.run_report.specs.Outcomes.{unread_count}
@@ -50,15 +51,13 @@ entry_here r blocks all k b e here named =
     here ∙ ap {B = Option Request} (λ (x : Request). Some x) is
 
 damaged_at : (x : Found) (n b : ℕ) → found_ending x n ≡ SaidInvalid b → b ≡ n
-damaged_at (FoundPage bytes) n b is = absurd (cc)
-damaged_at Zeroed n b is = absurd (cc)
-damaged_at Damaged n b is = cc
+damaged_at (FoundPage mark bytes) n b is = absurd (cc)
+damaged_at BadPage n b is = cc
 damaged_at Absent n b is = absurd (cc)
 
 absent_at : (x : Found) (n b : ℕ) → found_ending x n ≡ SaidPastEnd b → b ≡ n
-absent_at (FoundPage bytes) n b is = absurd (cc)
-absent_at Zeroed n b is = absurd (cc)
-absent_at Damaged n b is = absurd (cc)
+absent_at (FoundPage mark bytes) n b is = absurd (cc)
+absent_at BadPage n b is = absurd (cc)
 absent_at Absent n b is = cc
 
 -- the entry where reading stopped
@@ -72,7 +71,7 @@ stop_entry f end b at early (Some e) is = (e, refl, at (entry_found f e) e.block
 -- there are no more pages than blocks
 pages_few : (found : Reading) (blocks : List Request) (pages : List Page)
     → AreFirst found blocks pages → length pages ≤ length blocks
-pages_few (Unknown checksums) blocks pages first =
+pages_few (Unknown rules) blocks pages first =
     omega (
       arith,
       ap length first.1.1,
@@ -92,7 +91,7 @@ pages_few (Known f) blocks pages first =
 module _ (r : ℕ) (blocks : List Request) (all_of : AreOf r blocks) where
   invalid_here : (found : Reading) (k b : ℕ) → EndsAt found blocks k (SaidInvalid b)
       → slice_get blocks k ≡ Some (request r b)
-  invalid_here (Unknown checksums) k b ends = entry_here r blocks all_of k b ends.next ends.here ends.named
+  invalid_here (Unknown rules) k b ends = entry_here r blocks all_of k b ends.next ends.here ends.named
   invalid_here (Known f) k b ends =
       let stop = stop_entry f (SaidInvalid b) b (λ x n. damaged_at x n b) (λ e. cc)
       (first_stop f blocks) ends.1 in
@@ -101,7 +100,7 @@ module _ (r : ℕ) (blocks : List Request) (all_of : AreOf r blocks) where
 
   missing_here : (found : Reading) (k b : ℕ) → EndsAt found blocks k (SaidPastEnd b)
       → slice_get blocks k ≡ Some (request r b)
-  missing_here (Unknown checksums) k b ends = entry_here r blocks all_of k b ends.next ends.here ends.named
+  missing_here (Unknown rules) k b ends = entry_here r blocks all_of k b ends.next ends.here ends.named
   missing_here (Known f) k b ends =
       let stop = stop_entry f (SaidPastEnd b) b (λ x n. absent_at x n b) (λ e. cc)
       (first_stop f blocks) ends.1 in
@@ -112,11 +111,11 @@ module _ (r : ℕ) (blocks : List Request) (all_of : AreOf r blocks) where
       (b a : Option (List ℕ)) where
     abbrev Answer : Option Ending → Type 0
     Answer end =
-        IsJobAnswer m.text_of (reading_of m.rules told) (λ _. ⊤) blocks text warnings sums
+        IsJobAnswer m.page_format (reading_of m.rules told) (λ _. ⊤) blocks text warnings sums
         end
 
     abbrev texts : List Page → List ℕ
-    texts pages = listing m.text_of pages
+    texts pages = listing m.page_format pages
 
     -- the blocks were listed, with these sums
     abbrev Listed : Outcome → List ℕ → Type 0
@@ -126,22 +125,22 @@ module _ (r : ℕ) (blocks : List Request) (all_of : AreOf r blocks) where
     alone = append-nil blocks
 
     abbrev as_part : (end : Option Ending) → Answer end
-        → IsJobAnswer m.text_of (reading_of m.rules told) (λ _. ⊤) (blocks_of_parts (blocks ∷ []))
+        → IsJobAnswer m.page_format (reading_of m.rules told) (λ _. ⊤) (blocks_of_parts (blocks ∷ []))
         text warnings sums end
     as_part end answer = with_blocks m told blocks (blocks_of_parts (blocks ∷ [])) text warnings
         sums end (sym alone) answer
 
     -- the job's text was written whole, and its warnings behind it
-    listed_whole : (o : Outcome) → is_refused o ≡ false → (answer : Answer (outcome_ending o))
+    listed_whole : (o : Outcome) → can_end_listing o ≡ true → (answer : Answer (outcome_ending o))
         → ((e : Request) → named_block o ≡ Some e
         → slice_get blocks (length answer.pages) ≡ Some e)
-        → OutputGrew o b a text → SinkGrew b a text → (m.rules.zero ≡ false → warnings ≡ [])
+        → OutputGrew o b a text → SinkGrew b a text → (m.rules.damaged ≢ damaged_pages.Zero → warnings ≡ [])
         → (is_output_cut_off o ≡ true → o ≡ NoMemory) → Listed o warnings
     listed_whole o begun answer here grew all quiet memory =
         let n = length answer.pages in
         let every = take_all n answer.pages (omega arith) in (
           record {
-            not_refused = begun;
+            ends_listing = begun;
             text = text;
             all_warnings = warnings;
             sums = sums;
@@ -162,7 +161,7 @@ module _ (r : ℕ) (blocks : List Request) (all_of : AreOf r blocks) where
         )
 
     pub text_listed : (end : JobEnding) → Answer (answered_ending end) → SinkGrew b a text
-        → (m.rules.zero ≡ false → warnings ≡ []) → Listed (outcome_of_ending r end) warnings
+        → (m.rules.damaged ≢ damaged_pages.Zero → warnings ≡ []) → Listed (outcome_of_ending r end) warnings
     text_listed ending.Pages answer grew quiet =
         listed_whole (outcome_of_ending r ending.Pages) refl answer
         (λ e is. absurd (cc)) grew grew quiet (λ is. absurd (cc))
@@ -197,14 +196,14 @@ module _ (r : ℕ) (blocks : List Request) (all_of : AreOf r blocks) where
           answers = record { first = answer.answers.first; endings = subst P (sym none) tt };
         }
 
-    unwritten : (o : Outcome) (end : JobEnding) → is_refused o ≡ false → is_output_cut_off o ≡ true
+    unwritten : (o : Outcome) (end : JobEnding) → can_end_listing o ≡ true → is_output_cut_off o ≡ true
         → named_block o ≡ None → outcome_ending o ≡ None → Answer (answered_ending end)
         → OutputGrew o b a text
         → text ≢ [] → SinkGrewByPrefix b a text → Listed o []
     unwritten o end begun cut stops ends answer grew some first =
         let few = pages_few (reading_of m.rules told) blocks answer.pages answer.answers.first in (
           record {
-            not_refused = begun;
+            ends_listing = begun;
             text = text;
             all_warnings = warnings;
             sums = sums;
@@ -215,8 +214,8 @@ module _ (r : ℕ) (blocks : List Request) (all_of : AreOf r blocks) where
             whole = 0;
             pages_within = omega arith;
             all = λ is. absurd (cc);
-            stopped_behind = λ is. inl (cut_alone m.text_of blocks answer.pages b a text few answer.text_is
-                some (no_listing m.text_of) first);
+            stopped_behind = λ is. inl (cut_alone m.page_format blocks answer.pages b a text few answer.text_is
+                some (no_listing m.page_format) first);
             warnings_are = sym no_warnings;
             no_warnings = λ _. refl;
           },

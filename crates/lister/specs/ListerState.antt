@@ -65,7 +65,7 @@ module _ {W O E : Type 0} where
 
   -- the options by which it lists pages
   abbrev pub lister_options : Lister W O E → ListOptions
-  lister_options l = list_options l.rules l.tuples
+  lister_options l = list_options l.rules l.page_text
 
   -- the blocks that it leaves out
   abbrev pub lister_filter : Lister W O E → Option BlockFilter

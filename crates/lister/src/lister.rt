@@ -21,6 +21,7 @@ use page_check::{PageRules, World};
 use request_list::Cutter;
 use run_report::{Line, Outcome, write_warnings};
 use scan_jobs::{Ending, Job, JobSource, MapFilter};
+use scan_settings::PageText;
 
 /// What a run has still to list, and where to.
 #[derive(Drop)]
@@ -34,8 +35,8 @@ pub struct Lister<'a, 'e, 'm, 'w, W: World, O: Sink, E: Sink> {
     pub line: Line,
     /// How pages are read.
     pub rules: PageRules,
-    /// Whether the headers of tuples are listed too.
-    pub tuples: bool,
+    /// What is written of a page.
+    pub page_text: PageText,
     /// `Done` as long as nothing has ended the run.
     pub outcome: Outcome,
     /// The sums over the pages of the jobs that were done.
@@ -121,6 +122,7 @@ fn add_up(sums: PageSums, tally: PageSums) -> PageSums
         pages: sums.pages.saturating_add(tally.pages),
         zero: sums.zero.saturating_add(tally.zero),
         items: sums.items.saturating_add(tally.items),
+        faults: sums.faults.saturating_add(tally.faults),
     }
 }
 

@@ -1,7 +1,9 @@
 //! What is listed: tests of `aioscan` by random requests, by maps, with tuples, of damaged and of
-//! generated pages, under many settings.
+//! generated pages, under many settings; and what faults are told.
 #![tactic(auto)]
 
+#[cfg(test)]
+mod checks;
 #[cfg(test)]
 mod generated_runs;
 #[cfg(test)]
@@ -14,6 +16,8 @@ mod random_maps;
 mod random_requests;
 #[cfg(test)]
 mod settings;
+#[cfg(test)]
+mod show_damaged;
 #[cfg(test)]
 mod tuples;
 #[cfg(test)]

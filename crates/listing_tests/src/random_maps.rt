@@ -2,9 +2,10 @@
 use crate::map_runs::HEADER;
 use crate::random_requests::{expect_outcome, line_of, pick, random_block, random_file};
 use crate::settings::random_settings;
+use page_check::DamagedPages;
 use page_fixtures::checksums::page_as;
 use page_fixtures::pages::{DAMAGED, Parts, ZEROS, bytes_of};
-use row_fixtures::plain_lister::{RandomRequest, list_page, reference_run};
+use row_fixtures::plain_lister::{RandomRequest, is_valid_page, reference_run};
 use std::alloc::{AllocError, Global};
 use std::process::Abort;
 use std::sync::Wait;
@@ -50,7 +51,8 @@ fn reference_unmarked(
             to: Some(block),
             files: vec![in alloc; 0usize]?,
             checksums: asked.checksums,
-            zero: asked.zero,
+            damaged: asked.damaged,
+            check: false,
         };
         let (listed, told, status) = reference_run(alloc, &alone, contents)?;
         text.push_str(listed.as_str())?;
@@ -60,12 +62,6 @@ fn reference_unmarked(
         }
     }
     Ok((text, said, 0))
-}
-
-// Whether a page of a map is a valid one.
-fn is_valid(alloc: Global, page: &[u8], checksums: bool) -> Result<bool, Fail> {
-    let mut text = String::new(alloc);
-    list_page(&mut text, 1, 0, page, checksums)
 }
 
 // The same for the file `a` by the map `b`, whose first page is read where it is there and blocks
@@ -79,10 +75,10 @@ fn reference_run_by_map(
     let empty = Vec::new(alloc);
     let range = range_of(asked, contents.first().unwrap_or(&empty).len());
     let page = contents.get(1).unwrap_or(&empty).as_slice();
-    if range.0 >= range.1 || page.is_empty() || is_valid(alloc, page, asked.checksums)? {
+    if range.0 >= range.1 || page.is_empty() || is_valid_page(0, page, asked.checksums) {
         return reference_unmarked(alloc, range, asked, contents, (page, frozen));
     }
-    if !asked.zero {
+    if asked.damaged == DamagedPages::Refuse {
         let said = String::from_str(alloc, "invalid page 1 0\n")?;
         return Ok((String::new(alloc), said, 1));
     }
@@ -120,7 +116,12 @@ fn compare_by_map<R: Abort + AllocGlobal + Threads + Wait + Sync>(
         to: random_block(state),
         files: vec![in alloc; 0usize]?,
         checksums: pick(state, 2) == 0,
-        zero: pick(state, 2) == 0,
+        damaged: if pick(state, 2) == 0 {
+            DamagedPages::Zero
+        } else {
+            DamagedPages::Refuse
+        },
+        check: false,
     };
     let frozen = pick(state, 2) == 0;
     let mut settings = random_settings(alloc, state)?;

@@ -3,7 +3,7 @@ ghost use Rattle.std.specs.Prelude.{◌<◌};
 
 use crate::settings::random_settings;
 use aioscan_fixtures::runs::{TestOutcome, check_outcome, run};
-use page_check::Page;
+use page_check::{DamagedPages, Page};
 use page_fixtures::checksums::{EMPTY_SUMS, plain_checksum, with_checksum};
 use page_fixtures::files::STEADY;
 use page_fixtures::pages::{DAMAGED, EMPTY, Parts, ZEROS, bytes_of, page_of};
@@ -78,7 +78,14 @@ pub(crate) fn random_block(state: &mut u64) -> Option<u32> {
     }
 }
 
-fn random_request(alloc: Global, state: &mut u64, zero: bool) -> Result<RandomRequest, AllocError> {
+/// What becomes of damaged pages, and whether faults are told in place of a listing.
+pub(crate) type DamagedWords = (DamagedPages, bool);
+
+fn random_request(
+    alloc: Global,
+    state: &mut u64,
+    (damaged, check): DamagedWords,
+) -> Result<RandomRequest, AllocError> {
     let mut files = Vec::new(alloc);
     for _ in 0..1 + pick(state, 3) {
         files.push(if pick(state, 2) == 0 { 0usize } else { 1 })?;
@@ -88,7 +95,8 @@ fn random_request(alloc: Global, state: &mut u64, zero: bool) -> Result<RandomRe
         to: random_block(state),
         files,
         checksums: pick(state, 2) == 0,
-        zero,
+        damaged,
+        check,
     })
 }
 
@@ -108,9 +116,12 @@ pub(crate) fn line_of(
     if asked.checksums {
         line.push_str(" --checksums")?;
     }
-    if asked.zero {
-        line.push_str(" --zero-damaged")?;
-    }
+    line.push_str(match (asked.check, asked.damaged) {
+        (true, _) => " --check",
+        (false, DamagedPages::Refuse) => "",
+        (false, DamagedPages::Zero) => " --zero-damaged",
+        (false, DamagedPages::Give) => " --show-damaged",
+    })?;
     for file in asked.files.as_slice() {
         line.push_str(if *file == 0 { " a" } else { " b" })?;
     }
@@ -154,12 +165,12 @@ fn compare_random<R: Abort + AllocGlobal + Threads + Wait + Sync>(
     rt: &R,
     request: u32,
     state: &mut u64,
-    zero: bool,
+    words: DamagedWords,
 ) -> Result<(), Fail> {
     let alloc = rt.alloc();
     let a = random_file(alloc, state)?;
     let b = random_file(alloc, state)?;
-    let asked = random_request(alloc, state, zero)?;
+    let asked = random_request(alloc, state, words)?;
     let settings = random_settings(alloc, state)?;
     compare(rt, request, &asked, settings.as_str(), a, b)
 }
@@ -168,10 +179,10 @@ fn compare_random<R: Abort + AllocGlobal + Threads + Wait + Sync>(
 pub(crate) fn check_requests<R: Abort + AllocGlobal + Threads + Wait + Sync>(
     rt: &R,
     mut state: u64,
-    zero: bool,
+    words: DamagedWords,
 ) -> Result<(), Fail> {
     for request in 0..2000 {
-        compare_random(rt, request, &mut state, zero)?;
+        compare_random(rt, request, &mut state, words)?;
     }
     Ok(())
 }
@@ -188,6 +199,7 @@ fn damaged_file(alloc: Global, state: &mut u64) -> Result<Vec<u8>, AllocError> {
 pub(crate) fn check_damaged_files<R: Abort + AllocGlobal + Threads + Wait + Sync>(
     rt: &R,
     mut state: u64,
+    (damaged, check): DamagedWords,
 ) -> Result<(), Fail> {
     let alloc = rt.alloc();
     for file in 0..500 {
@@ -196,7 +208,8 @@ pub(crate) fn check_damaged_files<R: Abort + AllocGlobal + Threads + Wait + Sync
             to: None,
             files: vec![in alloc; 0usize]?,
             checksums: pick(&mut state, 2) == 0,
-            zero: true,
+            damaged,
+            check,
         };
         let bytes = damaged_file(alloc, &mut state)?;
         let again = bytes.clone()?;
@@ -208,25 +221,25 @@ pub(crate) fn check_damaged_files<R: Abort + AllocGlobal + Threads + Wait + Sync
 
 #[test]
 fn random_requests_of_the_first_seed(rt: HostRuntime) -> Result<(), Fail> {
-    check_requests(&rt, 20261126, false)
+    check_requests(&rt, 20261126, (DamagedPages::Refuse, false))
 }
 
 #[test]
 fn random_requests_of_the_second_seed(rt: HostRuntime) -> Result<(), Fail> {
-    check_requests(&rt, 20261127, false)
+    check_requests(&rt, 20261127, (DamagedPages::Refuse, false))
 }
 
 #[test]
 fn random_requests_of_the_third_seed(rt: HostRuntime) -> Result<(), Fail> {
-    check_requests(&rt, 20261128, false)
+    check_requests(&rt, 20261128, (DamagedPages::Refuse, false))
 }
 
 #[test]
 fn random_requests_of_the_fourth_seed(rt: HostRuntime) -> Result<(), Fail> {
-    check_requests(&rt, 20261129, false)
+    check_requests(&rt, 20261129, (DamagedPages::Refuse, false))
 }
 
 #[test]
 fn random_requests_of_the_fifth_seed(rt: HostRuntime) -> Result<(), Fail> {
-    check_requests(&rt, 20261130, false)
+    check_requests(&rt, 20261130, (DamagedPages::Refuse, false))
 }

@@ -22,8 +22,8 @@ const THREE_ITEMS: &[u8] = &[
     0xd8, 0x9f, 0x50, 0, 0xb0, 0x9f, 0x50, 0, 0x88, 0x9f, 0x50, 0,
 ];
 
-// A tuple that was inserted, and not updated.
-const ONE_TUPLE: Parts<'static> = &[
+/// A tuple that was inserted, and not updated.
+pub(crate) const ONE_TUPLE: Parts<'static> = &[
     (12, ONE_ITEM),
     (24, &[0xd8, 0x9f, 0x50, 0]),
     (

@@ -3,6 +3,7 @@ use crate::random_requests::{check_damaged_files, check_requests};
 use aioscan_cmd::Line;
 use aioscan_fixtures::rows::check_rows;
 use aioscan_fixtures::runs::{check_outcome, check_over, run};
+use page_check::DamagedPages;
 use page_fixtures::files::{STEADY, one_file};
 use row_fixtures::files::pages_file;
 use row_fixtures::listings::listing_of;
@@ -50,10 +51,10 @@ fn an_error_stream_that_fails_at_the_first_warning(rt: HostRuntime) -> Result<()
 
 #[test]
 fn random_requests_with_zeros(rt: HostRuntime) -> Result<(), Fail> {
-    check_requests(&rt, 20261201, true)
+    check_requests(&rt, 20261201, (DamagedPages::Zero, false))
 }
 
 #[test]
 fn random_damaged_files_by_both_methods(rt: HostRuntime) -> Result<(), Fail> {
-    check_damaged_files(&rt, 20261202)
+    check_damaged_files(&rt, 20261202, (DamagedPages::Zero, false))
 }

@@ -5,7 +5,7 @@ use Rattle.std.specs.Prelude.{Some, slice_get}
 use Rattle.std.specs.List.{All}
 use Rattle.std.proofs.lemmas.List.{length-map, map-append}
 use Rattle.std.proofs.lemmas.List.Elements.{All-append}
-use Rattle.std.specs.Prelude.{Bool}
+use Rattle.page_check.specs.declared.rules.PageRules.{PageRules}
 use Rattle.page_check.specs.SynchronousAnswer.{Reading, Known, Unknown}
 use Rattle.page_check.specs.SynchronousAnswer.{Entry, Given, Ending}
 use Rattle.page_check.specs.SynchronousAnswer.{readable_pages}
@@ -64,23 +64,23 @@ no_others end = λ k d below. absurd (omega arith)
 
 module _ {P : Type 0} where
   pub first_none : (found : Reading) (entries : List (Entry P)) → AreFirst found entries []
-  first_none (Unknown checksums) entries = (λ k d below. absurd (omega arith), (entries, refl))
+  first_none (Unknown rules) entries = (λ k d below. absurd (omega arith), (entries, refl))
   first_none (Known f) entries = (readable_pages f entries, refl)
 
-  one_given : (checksums : Bool) (given : Given P) → IsGiven checksums given
-      → All (IsGiven checksums) (given ∷ [])
-  one_given checksums given is = λ k d below. (let first : k ≡ 0 = omega arith in rw first is)
+  one_given : (rules : PageRules) (given : Given P) → IsGiven rules given
+      → All (IsGiven rules) (given ∷ [])
+  one_given rules given is = λ k d below. (let first : k ≡ 0 = omega arith in rw first is)
 
   first_next : (found : Reading) (entries : List (Entry P)) (pages : List (Given P))
       (given : Given P) → AreFirst found entries pages
       → IsNextPage found entries (length pages) given → AreFirst found entries (pages ++ given ∷ [])
-  first_next (Unknown checksums) entries pages given first next =
+  first_next (Unknown rules) entries pages given first next =
       let here : slice_get entries (length (map (λ (g : Given P). g.entry) pages))
       ≡ Some given.entry =
       ap (slice_get entries) (length-map pages (λ (g : Given P). g.entry)) ∙ next.1 in
       let begins =
       begins_next (map (λ (g : Given P). g.entry) pages) entries given.entry first.1 here in (
-        All-append (IsGiven checksums) pages (given ∷ []) first.0 (one_given checksums given next.0),
+        All-append (IsGiven rules) pages (given ∷ []) first.0 (one_given rules given next.0),
         (
           begins.0,
           begins.1

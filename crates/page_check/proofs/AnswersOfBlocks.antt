@@ -8,7 +8,7 @@ use Rattle.page_check.proofs.NextAnswer.{IsReached, next-end}
 
 -- reading begins at the first entry
 reached_first : {P : Type 0} (found : Reading) (es : List (Entry P)) → IsReached found es 0
-reached_first (Unknown checksums) es = tt
+reached_first (Unknown rules) es = tt
 reached_first (Known f) es = omega arith
 
 module _ {P : Type 0} (found : Reading) (may : Entry P → Type 0) where

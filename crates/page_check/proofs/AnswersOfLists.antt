@@ -9,7 +9,7 @@ use Rattle.std.proofs.lemmas.List.{length-map, map-append}
 use Rattle.std.proofs.lemmas.List.Elements.{All-append}
 use Rattle.page_check.specs.SynchronousAnswer.{Reading, Known, Unknown}
 use Rattle.page_check.specs.SynchronousAnswer.{Entry, Given, Ending, End, Invalid, PastEnd, Unread}
-use Rattle.page_check.specs.SynchronousAnswer.{Found, Page, Zeroed, Damaged, Absent, Reader}
+use Rattle.page_check.specs.SynchronousAnswer.{Found, Page, BadPage, Absent, Reader}
 use Rattle.page_check.specs.SynchronousAnswer.{entry_given}
 use Rattle.page_check.specs.SynchronousAnswer.{entry_found, is_page, can_read, readable_pages}
 use Rattle.page_check.specs.SynchronousAnswer.{first_stop}
@@ -26,15 +26,13 @@ use Rattle.page_check.proofs.AnswersInOrder.{slice_get_back}
 
 -- an entry gives its page, or reading stops at it
 gives_or_stops : (r : Found) → (is_page r ≡ true) ⊎ (is_page r ≡ false)
-gives_or_stops (Page bytes) = inl refl
-gives_or_stops Zeroed = inl refl
-gives_or_stops Damaged = inr refl
+gives_or_stops (Page mark bytes) = inl refl
+gives_or_stops BadPage = inr refl
 gives_or_stops Absent = inr refl
 
 not_end : (r : Found) (block : ℕ) → is_page r ≡ false → found_ending r block ≢ End
-not_end (Page bytes) block none is = absurd (cc)
-not_end Zeroed block none is = absurd (cc)
-not_end Damaged block none is = absurd (cc)
+not_end (Page mark bytes) block none is = absurd (cc)
+not_end BadPage block none is = absurd (cc)
 not_end Absent block none is = absurd (cc)
 
 module _ {P : Type 0} (f : Reader) where
@@ -127,7 +125,7 @@ module _ {P : Type 0} where
   -- the first pages of a list are those of a longer one
   first_more : (found : Reading) (xs ys : List (Entry P)) (pages : List (Given P))
       → AreFirst found xs pages → AreFirst found (xs ++ ys) pages
-  first_more (Unknown checksums) xs ys pages first =
+  first_more (Unknown rules) xs ys pages first =
       (first.0, begins_more (map (λ (g : Given P). g.entry) pages) xs ys first.1)
   first_more (Known f) xs ys pages first =
       begins_trans pages (readable_pages f xs) (readable_pages f (xs ++ ys)) first
@@ -152,8 +150,8 @@ module _ {P : Type 0} where
       (end : Ending) → end ≢ End → IsEnding found may xs k end → IsEnding found may (xs ++ ys) k end
   ending_more found may xs ys k End more is = absurd (more refl)
   ending_more found may xs ys k (Unread b) more is = stops_more may xs ys k b is
-  ending_more (Unknown checksums) may xs ys k (Invalid b) more is = stops_more _ xs ys k b is
-  ending_more (Unknown checksums) may xs ys k (PastEnd b) more is = stops_more _ xs ys k b is
+  ending_more (Unknown rules) may xs ys k (Invalid b) more is = stops_more _ xs ys k b is
+  ending_more (Unknown rules) may xs ys k (PastEnd b) more is = stops_more _ xs ys k b is
   ending_more (Known f) may xs ys k (Invalid b) more is =
       ends_more_told f xs ys k (Invalid b) (λ e. cc) is
   ending_more (Known f) may xs ys k (PastEnd b) more is =
@@ -178,12 +176,12 @@ module _ {P : Type 0} where
   first_append : (found : Reading) (xs ys : List (Entry P)) (front back : List (Given P))
       → AreFirst found xs front → EndsAt found xs (length front) End → AreFirst found ys back
       → AreFirst found (xs ++ ys) (front ++ back)
-  first_append (Unknown checksums) xs ys front back first end second =
+  first_append (Unknown rules) xs ys front back first end second =
       let entries : List (Given P) → List (Entry P) = map (λ g. g.entry) in
       let all : xs ≡ entries front = begins_all (entries front) xs first.1
       (length-map front (λ (g : Given P). g.entry) ∙ end) in
       let begins = begins_append (entries front) (entries back) ys second.1 in (
-        All-append (IsGiven checksums) front back first.0 second.0,
+        All-append (IsGiven rules) front back first.0 second.0,
         (
           begins.0,
           ap (λ (l : List (Entry P)). l ++ ys) all ∙ begins.1
@@ -201,7 +199,7 @@ module _ {P : Type 0} where
 
   pub length_whole : (found : Reading) (xs : List (Entry P)) (front : List (Given P))
       → EndsAt found xs (length front) End → length front ≡ length xs
-  length_whole (Unknown checksums) xs front end = end
+  length_whole (Unknown rules) xs front end = end
   length_whole (Known f) xs front end = end.0 ∙ (whole f xs [] end.1).all
 
   stops_append : (may : Entry P → Type 0) (xs ys : List (Entry P)) (n k b : ℕ) → n ≡ length xs
@@ -216,12 +214,12 @@ module _ {P : Type 0} where
   ends_append : (found : Reading) (xs ys : List (Entry P)) (front : List (Given P)) (k : ℕ)
       (end : Ending) → EndsAt found xs (length front) End → EndsAt found ys k end
       → EndsAt found (xs ++ ys) (length front + k) end
-  ends_append (Unknown checksums) xs ys front k End all ends = omega (arith, all, ends, length-append xs ys)
-  ends_append (Unknown checksums) xs ys front k (Invalid b) all ends =
+  ends_append (Unknown rules) xs ys front k End all ends = omega (arith, all, ends, length-append xs ys)
+  ends_append (Unknown rules) xs ys front k (Invalid b) all ends =
       stops_append _ xs ys (length front) k b all ends
-  ends_append (Unknown checksums) xs ys front k (PastEnd b) all ends =
+  ends_append (Unknown rules) xs ys front k (PastEnd b) all ends =
       stops_append _ xs ys (length front) k b all ends
-  ends_append (Unknown checksums) xs ys front k (Unread b) all ends = absurd ends
+  ends_append (Unknown rules) xs ys front k (Unread b) all ends = absurd ends
   ends_append (Known f) xs ys front k end all ends =
       let both = whole f xs ys all.1 in (
         omega (

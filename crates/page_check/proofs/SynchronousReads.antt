@@ -3,48 +3,53 @@ use Rattle.std.proofs.Common.{◌≡◌, ◌≢◌, ℕ, ◌<◌, ◌≤◌, suc
 use Rattle.std.proofs.Common.{false, refl, ap, arith}
 use Rattle.std.specs.Prelude.{Some, None, nat_le, slice_get}
 use Rattle.std.proofs.lemmas.Bool.Decides.{nat_tests}
-use Rattle.std.specs.Prelude.{Bool}
+use Rattle.page_check.specs.declared.rules.PageRules.{PageRules}
+use Rattle.page_check.specs.declared.rules.DamagedPages.{DamagedPages}
+use Rattle.page_check.specs.declared.rules.PageMark.TheVariants.{Valid}
 use Rattle.page_check.specs.Checksum.{IsValidAs, verdict_as}
 use Rattle.page_check.specs.declared.verdict.Verdict.{Verdict}
 use Rattle.page_check.specs.declared.verdict.Verdict.TheVariants.{Zero, Sane, Bad}
 use Rattle.page_check.specs.Told.{Told, relation_block_count, relation_page}
-use Rattle.page_check.specs.SynchronousAnswer.{Entry, Page, Damaged, Absent, Reader}
+use Rattle.page_check.specs.SynchronousAnswer.{Entry, Page, Absent, Reader}
 use Rattle.page_check.specs.SynchronousAnswer.{found_at, found_by_verdict}
 use Rattle.page_check.specs.SynchronousAnswer.{can_read}
 use Rattle.page_check.specs.SynchronousAnswer.{entry_given, read_count, readable_pages, first_stop}
 
-found_valid : (v : Verdict) (page : List ℕ) → v ≢ Bad → found_by_verdict v page ≡ Page page
-found_valid Bad page valid = absurd (valid refl)
-found_valid Zero page valid = refl
-found_valid Sane page valid = refl
+found_valid : (damaged : DamagedPages) (v : Verdict) (page : List ℕ) → v ≢ Bad
+    → found_by_verdict damaged v page ≡ Page Valid page
+found_valid damaged Bad page valid = absurd (valid refl)
+found_valid damaged Zero page valid = refl
+found_valid damaged Sane page valid = refl
 
 -- a valid page of a block that the relation has is found
-pub found_at-page : (checksums : Bool) (told : Told) (relation block : ℕ)
+pub found_at-page : (rules : PageRules) (told : Told) (relation block : ℕ)
     → block < relation_block_count told relation
-    → IsValidAs checksums block (relation_page told relation block)
-    → found_at checksums told relation block ≡ Page (relation_page told relation block)
+    → IsValidAs rules.checksums block (relation_page told relation block)
+    → found_at rules told relation block ≡ Page Valid (relation_page told relation block)
 unfolding found_at
-found_at-page checksums told relation block below valid =
+found_at-page rules told relation block below valid =
     let here : nat_le (relation_block_count told relation) block ≡ false = grind (arith, nat_tests)
     in
-    rw here (found_valid (verdict_as checksums block (relation_page told relation block))
+    rw here (found_valid rules.damaged (verdict_as rules.checksums block (relation_page told relation block))
     (relation_page told relation block) valid)
 
-pub found_at-damaged : (checksums : Bool) (told : Told) (relation block : ℕ)
+-- one that is Bad gives what the rule on damaged pages says
+pub found_at-damaged : (rules : PageRules) (told : Told) (relation block : ℕ)
     → block < relation_block_count told relation
-    → verdict_as checksums block (relation_page told relation block) ≡ Bad
-    → found_at checksums told relation block ≡ Damaged
+    → verdict_as rules.checksums block (relation_page told relation block) ≡ Bad
+    → found_at rules told relation block
+    ≡ found_by_verdict rules.damaged Bad (relation_page told relation block)
 unfolding found_at
-found_at-damaged checksums told relation block below bad =
+found_at-damaged rules told relation block below bad =
     let here : nat_le (relation_block_count told relation) block ≡ false = grind (arith, nat_tests)
     in
     rw (here, bad) refl
 
-pub found_at-absent : (checksums : Bool) (told : Told) (relation block : ℕ)
+pub found_at-absent : (rules : PageRules) (told : Told) (relation block : ℕ)
     → relation_block_count told relation ≤ block
-    → found_at checksums told relation block ≡ Absent
+    → found_at rules told relation block ≡ Absent
 unfolding found_at
-found_at-absent checksums told relation block past =
+found_at-absent rules told relation block past =
     let here : nat_le (relation_block_count told relation) block ≡ true = grind (arith, nat_tests)
     in
     rw here refl

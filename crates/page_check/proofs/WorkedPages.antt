@@ -1,6 +1,6 @@
 -- Worked pages: what the definitions say of them.
 use Rattle.std.proofs.Common.{◌≡◌, ℕ, ◌/◌, ◌%◌, List, [], ◌∷◌, ◌++◌, replicate, refl, length, zero}
-use Rattle.std.proofs.Common.{suc, map, ◌<◌, arith, ap, sym, ◌∙◌, Bool, true, false}
+use Rattle.std.proofs.Common.{suc, map, ◌<◌, arith, ap, sym, ◌∙◌, Bool, false}
 use Rattle.std.specs.Prelude.{⊤}
 use Rattle.std.proofs.lemmas.Option.{slice_get_within, same_Some}
 use Rattle.std.specs.List.{range_with_len}
@@ -10,7 +10,11 @@ use Rattle.page_check.specs.Told.{Told, told_in, segments_joined, block_contents
 use Rattle.page_check.specs.Told.{relation_block_count}
 use Rattle.page_check.specs.SynchronousAnswer.{Entry, End, Invalid, PastEnd, found_at, read_count}
 use Rattle.page_check.specs.SynchronousAnswer.{readable_pages, list_ending, Given, Unread, Reader}
-use Rattle.page_check.specs.SynchronousAnswer.{zeroing}
+use Rattle.page_check.specs.declared.rules.PageRules.{PageRules}
+use Rattle.page_check.specs.declared.rules.DamagedPages.{DamagedPages}
+use Rattle.page_check.specs.declared.rules.DamagedPages.TheVariants as damaged_pages
+use Rattle.page_check.specs.declared.rules.PageMark.{PageMark}
+use Rattle.page_check.specs.declared.rules.PageMark.TheVariants.{Valid, Zeroed, Damaged}
 use Rattle.page_check.specs.IsAnswer.{Answers, IsAnswer}
 use Rattle.page_check.specs.Fields.{u16_at, u32_at, header_of}
 use Rattle.page_check.specs.declared.verdict.Verdict.TheVariants.{Zero, Sane, Bad}
@@ -106,75 +110,93 @@ block b = record { relation = 0; block = b; per_buffer_data = tt }
 
 -- an empty page, given for its block
 abbrev of_block : ℕ → Given (Unit {0})
-of_block b = record { entry = block b; page = E; zeroed = false }
+of_block b = record { entry = block b; page = E; mark = Valid }
 
 -- one relation in one file, with the segment size that PostgreSQL is built with
 abbrev of_one_file : List ℕ → Told
 of_one_file bytes = told_in 131072 ((bytes ∷ []) ∷ [])
 
+abbrev reading : Bool → DamagedPages → PageRules
+reading sums damaged = record { checksums = sums; damaged = damaged }
+
+abbrev refusing : PageRules
+refusing = reading false damaged_pages.Refuse
+
 -- 14 pages with a bad one at block 12, blocks 10 to 13: two pages, then the bad one
 abbrev bad_at_12 : Told
 bad_at_12 = of_one_file (pages 12 (flagged ++ pages 1 []))
 
-two_before_the_bad : (length (readable_pages (found_at false bad_at_12) (blocks 10 4)) ≡ 2)
-    × (list_ending (found_at false bad_at_12) (blocks 10 4) ≡ Invalid 12)
+two_before_the_bad : (length (readable_pages (found_at refusing bad_at_12) (blocks 10 4)) ≡ 2)
+    × (list_ending (found_at refusing bad_at_12) (blocks 10 4) ≡ Invalid 12)
 unfolding read_count found_at segments_joined block_contents block_count verdict_as header_of u16_at
     u32_at
 two_before_the_bad = (refl, refl)
 
 -- with damaged pages zeroed all four are given, the third as zeros
 abbrev zeroing_at_12 : Reader
-zeroing_at_12 = zeroing true (found_at false bad_at_12)
+zeroing_at_12 = found_at (reading false damaged_pages.Zero) bad_at_12
 
 zeros_in_place_of_the_bad :
-    (map {B = ℕ × Bool} (λ (g : Given (Unit {0})). (g.entry.block, g.zeroed))
+    (map {B = ℕ × PageMark} (λ (g : Given (Unit {0})). (g.entry.block, g.mark))
     (readable_pages zeroing_at_12 (blocks 10 4))
-    ≡ ((10, false) ∷ (11, false) ∷ (12, true) ∷ (13, false) ∷ []))
+    ≡ ((10, Valid) ∷ (11, Valid) ∷ (12, Zeroed) ∷ (13, Valid) ∷ []))
     × (list_ending zeroing_at_12 (blocks 10 4) ≡ End)
 unfolding read_count found_at segments_joined block_contents block_count verdict_as header_of u16_at
     u32_at
 zeros_in_place_of_the_bad = (refl, refl)
 
 the_zeroed_page_has_no_set_byte : readable_pages zeroing_at_12 (blocks 12 1)
-    ≡ (record { entry = block 12; page = replicate 8192 0; zeroed = true } ∷ [])
+    ≡ (record { entry = block 12; page = replicate 8192 0; mark = Zeroed } ∷ [])
 unfolding read_count found_at segments_joined block_contents block_count verdict_as header_of u16_at
     u32_at
 the_zeroed_page_has_no_set_byte = refl
+
+-- with damaged pages given all four are, the third as it is
+abbrev giving_at_12 : Reader
+giving_at_12 = found_at (reading false damaged_pages.Give) bad_at_12
+
+the_bad_is_given_as_it_is :
+    (readable_pages giving_at_12 (blocks 11 3)
+    ≡ (of_block 11 ∷ record { entry = block 12; page = flagged; mark = Damaged } ∷ of_block 13 ∷ []))
+    × (list_ending giving_at_12 (blocks 11 3) ≡ End)
+unfolding read_count found_at segments_joined block_contents block_count verdict_as header_of u16_at
+    u32_at
+the_bad_is_given_as_it_is = (refl, refl)
 
 -- 4 pages, blocks 3 to 4: one page, then past the end
 abbrev four : Told
 four = of_one_file (pages 4 [])
 
 one_before_the_end :
-    (readable_pages (found_at false four) (blocks 3 2)
+    (readable_pages (found_at refusing four) (blocks 3 2)
     ≡ (of_block 3 ∷ []))
-    × (list_ending (found_at false four) (blocks 3 2) ≡ PastEnd 4)
+    × (list_ending (found_at refusing four) (blocks 3 2) ≡ PastEnd 4)
 unfolding read_count found_at segments_joined block_contents block_count verdict_as header_of u16_at
     u32_at
 one_before_the_end = (refl, refl)
 
 -- but a block that is not there is no page of zeros
-no_zeros_past_the_end : list_ending (zeroing true (found_at false four)) (blocks 3 2) ≡ PastEnd 4
+no_zeros_past_the_end : list_ending (found_at (reading false damaged_pages.Zero) four) (blocks 3 2) ≡ PastEnd 4
 unfolding read_count found_at segments_joined block_contents block_count verdict_as header_of u16_at
     u32_at
 no_zeros_past_the_end = refl
 
 -- 8191 bytes are no block, and an empty list ends at once
 no_block : (relation_block_count (of_one_file (replicate 8191 0)) 0 ≡ 0)
-    × (list_ending {P = Unit {0}} (found_at false (of_one_file (replicate 8191 0))) [] ≡ End)
+    × (list_ending {P = Unit {0}} (found_at refusing (of_one_file (replicate 8191 0))) [] ≡ End)
 unfolding segments_joined block_count read_count
 no_block = (refl, refl)
 
 -- what may be answered to the blocks 3 and 4 of the four pages
 abbrev IsAnswered : Answers (Unit {0}) → Type 0
-IsAnswered = IsAnswer (Known (found_at false four)) (λ _. ⊤) (blocks 3 2)
+IsAnswered = IsAnswer (Known (found_at refusing four)) (λ _. ⊤) (blocks 3 2)
 
 abbrev three : Given (Unit {0})
 three = of_block 3
 
 -- nothing yet, or the page of block 3
 no_answer_yet : IsAnswered (record { pages = []; endings = [] })
-no_answer_yet = record { first = (readable_pages (found_at false four) (blocks 3 2), refl); endings = tt }
+no_answer_yet = record { first = (readable_pages (found_at refusing four) (blocks 3 2), refl); endings = tt }
 
 one_page_so_far : IsAnswered (record { pages = three ∷ []; endings = [] })
 unfolding read_count found_at segments_joined block_contents block_count verdict_as header_of u16_at
@@ -192,7 +214,7 @@ past_the_end_twice = record {
 }
 
 -- all pages of the blocks 2 and 3, then the end, which stays
-the_end_twice : IsAnswer (Known (found_at false four)) (λ _. ⊤) (blocks 2 2) (record {
+the_end_twice : IsAnswer (Known (found_at refusing four)) (λ _. ⊤) (blocks 2 2) (record {
   pages = of_block 2 ∷ three ∷ [];
   endings = End ∷ End ∷ [];
 })
@@ -227,13 +249,13 @@ none_unread_behind_the_last found b pages two answer =
 
 -- where nothing is told, the end comes behind the last block alone
 no_end_before_the_last : (pages : List (Given (Unit {0})))
-    → IsAnswer (Unknown false) (λ _. ⊤) (blocks 3 2) (record { pages = pages; endings = End ∷ [] })
+    → IsAnswer (Unknown refusing) (λ _. ⊤) (blocks 3 2) (record { pages = pages; endings = End ∷ [] })
     → length pages ≡ 2
 no_end_before_the_last pages answer = answer.endings.0
 
 -- and an invalid page is that of the next block
 invalid_is_the_next : (b : ℕ)
-    → IsAnswer (Unknown false) (λ _. ⊤) (blocks 3 2) (record { pages = []; endings = Invalid b ∷ [] }) → b ≡ 3
+    → IsAnswer (Unknown refusing) (λ _. ⊤) (blocks 3 2) (record { pages = []; endings = Invalid b ∷ [] }) → b ≡ 3
 invalid_is_the_next b answer =
     let stops = answer.endings.0 in
     let next = same_Some (block 3) stops.next stops.here in

@@ -1,12 +1,18 @@
 -- What one thread's synchronous reads give for a list of blocks.
-use Rattle.std.specs.Prelude.{ℕ, Bool, true, false, nat_le, if◌then◌else◌, List, [], map, take}
-use Rattle.std.specs.Prelude.{slice_get, replicate, cond}
+use Rattle.std.specs.Prelude.{◌≡◌, ℕ, Bool, true, false, nat_le, if◌then◌else◌, List, [], map, take}
+use Rattle.std.specs.Prelude.{slice_get, replicate}
 use Rattle.std.specs.Prelude.{Option, Some, None}
 use Rattle.std.specs.List.{prefix_len}
 use Rattle.page_check.specs.declared.verdict.Verdict.{Verdict}
 use Rattle.page_check.specs.declared.verdict.Verdict.TheVariants.{Zero, Sane, Bad}
 use Rattle.page_check.specs.declared.rules.PageRules.{PageRules}
-use Rattle.page_check.specs.Checksum.{verdict_as}
+use Rattle.page_check.specs.declared.rules.DamagedPages.{DamagedPages}
+use Rattle.page_check.specs.declared.rules.DamagedPages.TheVariants as damaged_pages
+use Rattle.page_check.specs.declared.rules.DamagedPages.TheVariants.{Refuse, Give}
+use Rattle.page_check.specs.declared.rules.PageMark.{PageMark}
+use Rattle.page_check.specs.declared.rules.PageMark.TheVariants.{Valid, Zeroed, Damaged}
+use Rattle.page_check.specs.Verdict.{IsValid}
+use Rattle.page_check.specs.Checksum.{verdict_as, IsValidAs}
 use Rattle.page_check.specs.Told.{Told, relation_block_count, relation_page}
 
 -- a block that is asked for, with the data that the asker keeps for it (`per_buffer_data` of
@@ -16,11 +22,11 @@ pub record Entry (P : Type 0) : Type 0 where
   pub block : ℕ
   pub per_buffer_data : P
 
--- a page that was given for an entry, and whether it is zeros in place of an invalid one
+-- a page that was given for an entry, and what is said of it
 pub record Given (P : Type 0) : Type 0 where
   pub entry : Entry P
   pub page : List ℕ
-  pub zeroed : Bool
+  pub mark : PageMark
 
 -- how a list of entries ends: behind its last page, or at a block that has none to give
 pub data Ending : Type 0 where
@@ -29,88 +35,93 @@ pub data Ending : Type 0 where
   PastEnd : (block : ℕ) → Ending
   Unread : (block : ℕ) → Ending
 
--- what a block gives: its page, or zeros in place of a Bad one, or that the page is Bad, or that
--- there is no such block
+-- a page without a set byte
+abbrev pub zero_page : List ℕ
+zero_page = replicate 8192 0
+
+-- what a block gives: a page and what is said of it, or none since its page is Bad, or that there is
+-- no such block
 pub data Found : Type 0 where
-  Page : (bytes : List ℕ) → Found
-  Zeroed : Found
-  Damaged : Found
+  Page : (mark : PageMark) → (bytes : List ℕ) → Found
+  BadPage : Found
   Absent : Found
 
--- the page, where the verdict on it is not Bad
-abbrev pub found_by_verdict : Verdict → List ℕ → Found
-found_by_verdict Bad page = Damaged
-found_by_verdict Zero page = Page page
-found_by_verdict Sane page = Page page
+-- the page, where the verdict on it is not Bad; else as the rule on damaged pages says
+abbrev pub found_by_verdict : DamagedPages → Verdict → List ℕ → Found
+found_by_verdict damaged Zero page = Page Valid page
+found_by_verdict damaged Sane page = Page Valid page
+found_by_verdict Refuse Bad page = BadPage
+found_by_verdict damaged_pages.Zero Bad page = Page Zeroed zero_page
+found_by_verdict Give Bad page = Page Damaged page
 
 -- what each block of each relation gives
 abbrev pub Reader : Type 0
 Reader = ℕ → ℕ → Found
 
--- by the contents that are told, with checksums verified or not
-unfoldable pub found_at : Bool → Told → Reader
-found_at checksums told relation block =
+-- by the contents that are told, and how pages are read
+unfoldable pub found_at : PageRules → Told → Reader
+found_at rules told relation block =
     if nat_le (relation_block_count told relation) block then Absent
-    else found_by_verdict (verdict_as checksums block (relation_page told relation block))
+    else found_by_verdict rules.damaged
+    (verdict_as rules.checksums block (relation_page told relation block))
     (relation_page told relation block)
 
--- a Bad page is given as zeros (`zero_damaged_pages`)
-abbrev pub zeroed_if_damaged : Found → Found
-zeroed_if_damaged (Page bytes) = Page bytes
-zeroed_if_damaged Zeroed = Zeroed
-zeroed_if_damaged Damaged = Zeroed
-zeroed_if_damaged Absent = Absent
+-- what a mark says of a page that is read so, and given for this block
+abbrev pub IsMarkedAs : PageRules → ℕ → PageMark → List ℕ → Type 0
+IsMarkedAs rules block Valid page = IsValidAs rules.checksums block page
+IsMarkedAs rules block Zeroed page = (rules.damaged ≡ damaged_pages.Zero) × (page ≡ zero_page)
+IsMarkedAs rules block Damaged page =
+    (rules.damaged ≡ Give) × (verdict_as rules.checksums block page ≡ Bad)
 
--- what each block gives, with damaged pages zeroed or not
-abbrev pub zeroing : Bool → Reader → Reader
-zeroing zero found =
-    λ relation block. cond zero (zeroed_if_damaged (found relation block)) (found relation block)
+-- which marks there may be, by the rule on damaged pages
+abbrev pub AllowsMark : DamagedPages → PageMark → Type 0
+AllowsMark damaged Valid = Unit {0}
+AllowsMark damaged Zeroed = damaged ≡ damaged_pages.Zero
+AllowsMark damaged Damaged = damaged ≡ Give
 
--- what is known of the pages that are read: what each block gives, or, where nothing is told,
--- whether their checksums were verified
+-- a page that is not marked as damaged is valid
+abbrev pub IsValidUnlessDamaged : PageMark → List ℕ → Type 0
+IsValidUnlessDamaged Valid page = IsValid page
+IsValidUnlessDamaged Zeroed page = IsValid page
+IsValidUnlessDamaged Damaged page = Unit {0}
+
+-- what is known of the pages that are read: what each block gives, or, where nothing is told, how
+-- they are read
 pub data Reading : Type 0 where
   Known : (found : Reader) → Reading
-  Unknown : (checksums : Bool) → Reading
+  Unknown : (rules : PageRules) → Reading
 
 abbrev pub IfKnown : Reading → (Reader → Type 0) → Type 0
 IfKnown (Known found) holds = holds found
-IfKnown (Unknown checksums) holds = Unit {0}
+IfKnown (Unknown rules) holds = Unit {0}
 
-abbrev pub IfUnknown : Reading → (Bool → Type 0) → Type 0
+abbrev pub IfUnknown : Reading → (PageRules → Type 0) → Type 0
 IfUnknown (Known found) holds = Unit {0}
-IfUnknown (Unknown checksums) holds = holds checksums
+IfUnknown (Unknown rules) holds = holds rules
 
 abbrev pub reading_of : PageRules → Option Told → Reading
-reading_of rules None = Unknown rules.checksums
-reading_of rules (Some told) = Known (zeroing rules.zero (found_at rules.checksums told))
-
--- a page without a set byte
-abbrev pub zero_page : List ℕ
-zero_page = replicate 8192 0
+reading_of rules None = Unknown rules
+reading_of rules (Some told) = Known (found_at rules told)
 
 abbrev pub is_page : Found → Bool
-is_page (Page bytes) = true
-is_page Zeroed = true
-is_page Damaged = false
+is_page (Page mark bytes) = true
+is_page BadPage = false
 is_page Absent = false
 
-abbrev pub is_zeroed : Found → Bool
-is_zeroed (Page bytes) = false
-is_zeroed Zeroed = true
-is_zeroed Damaged = false
-is_zeroed Absent = false
+abbrev pub found_mark : Found → PageMark
+found_mark (Page mark bytes) = mark
+found_mark BadPage = Valid
+found_mark Absent = Valid
 
 abbrev pub found_page : Found → List ℕ
-found_page (Page bytes) = bytes
-found_page Zeroed = zero_page
-found_page Damaged = []
+found_page (Page mark bytes) = bytes
+found_page BadPage = []
 found_page Absent = []
 
 -- where a list ends, by what was found at its entry of this block
 abbrev pub found_ending : Found → ℕ → Ending
-found_ending (Page bytes) block = End
-found_ending Zeroed block = End
-found_ending Damaged block = Invalid block
+found_ending (Page mark bytes) block = End
+found_ending BadPage block = Invalid block
 found_ending Absent block = PastEnd block
 
 module _ {P : Type 0} where
@@ -122,7 +133,7 @@ module _ {P : Type 0} where
 
   -- what was found, given for the entry
   abbrev pub found_given : Found → Entry P → Given P
-  found_given found e = record { entry = e; page = found_page found; zeroed = is_zeroed found }
+  found_given found e = record { entry = e; page = found_page found; mark = found_mark found }
 
   abbrev pub entry_given : Reader → Entry P → Given P
   entry_given found e = found_given (entry_found found e) e

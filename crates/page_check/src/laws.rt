@@ -5,13 +5,14 @@ ghost use Rattle.std.specs.Prelude.{Some, slice_get, All, true};
 ghost use Rattle.page_check.specs.PageBytes.{IsPage};
 ghost use Rattle.page_check.specs.Fields.{header_of};
 ghost use Rattle.page_check.specs.Verdict.{is_sane};
-ghost use Rattle.page_check.specs.Checksum.{checksum_of, with_checksum, verdict_as, IsValidAs};
+ghost use Rattle.page_check.specs.Checksum.{checksum_of, with_checksum, verdict_as};
 ghost use Rattle.page_check.specs.SynchronousAnswer.{Reading, Known, IfKnown, IfUnknown};
 ghost use Rattle.page_check.specs.SynchronousAnswer.{Entry, Given, Ending, End, Invalid, PastEnd};
-ghost use Rattle.page_check.specs.SynchronousAnswer.{Unread, Damaged, Absent, Found, is_page};
+ghost use Rattle.page_check.specs.SynchronousAnswer.{Unread, BadPage, Absent, Found, is_page};
 ghost use Rattle.page_check.specs.SynchronousAnswer.{Reader, entry_found, read_count};
 ghost use Rattle.page_check.specs.SynchronousAnswer.{readable_pages};
-ghost use Rattle.page_check.specs.SynchronousAnswer.{found_page, found_given, list_ending};
+ghost use Rattle.page_check.specs.SynchronousAnswer.{IsMarkedAs, found_mark, found_page};
+ghost use Rattle.page_check.specs.SynchronousAnswer.{found_given, list_ending};
 ghost use Rattle.page_check.specs.IsAnswer.{IsAnswer, IsNext, Next, Page, Stop, with_next};
 
 use crate::Verdict;
@@ -67,14 +68,15 @@ pub fn what_is_found_is_answered_next<P, M: MayBeUnread<P>>()
         (shown : Found) → slice_get entries k ≡ Some e
         → IfKnown found (λ f. k ≤ read_count f entries)
         → is_page shown ≡ true
-        → IfUnknown found (λ checksums. IsValidAs checksums e.block (found_page shown))
+        → IfUnknown found
+        (λ rules. IsMarkedAs rules e.block (found_mark shown) (found_page shown))
         → IsPage (found_page shown)
         → IfKnown found (λ f. entry_found f e ≡ shown)
         → IsNext found M.may entries k (Page (found_given shown e))
         × IfKnown found (λ f. k + 1 ≤ read_count f entries) }
     ensures invalid { (found : Reading) (entries : List (Entry P)) (k : ℕ) (e : Entry P)
         → slice_get entries k ≡ Some e → IfKnown found (λ f. k ≤ read_count f entries)
-        → IfKnown found (λ f. entry_found f e ≡ Damaged)
+        → IfKnown found (λ f. entry_found f e ≡ BadPage)
         → IsNext found M.may entries k (Stop (Invalid e.block)) }
     ensures past_end { (found : Reading) (entries : List (Entry P)) (k : ℕ) (e : Entry P)
         → slice_get entries k ≡ Some e → IfKnown found (λ f. k ≤ read_count f entries)

@@ -20,6 +20,6 @@ pub use fields::{
     Kind, LinePointer, PageHeader, count, header, line_pointer, line_pointer_at, read_u16, read_u32,
 };
 pub use page::{PAGE_SIZE, Page, split_bytes};
-pub use rules::PageRules;
+pub use rules::{DamagedPages, PageMark, PageRules};
 pub use verdict::{Verdict, check};
 pub use world::World;

@@ -5,3 +5,4 @@ pub mod HexDigits
 pub mod FaultLines
 pub mod ItemsInOrder
 pub mod FoundPlaces
+pub mod FaultCounts

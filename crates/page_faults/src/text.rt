@@ -1,5 +1,5 @@
 //! The text of a page's faults.
-ghost use Rattle.std.specs.Prelude.{◌≡◌, ◌++◌, length, take, OnOk, OnErr, IfOk};
+ghost use Rattle.std.specs.Prelude.{◌≡◌, ◌≤◌, ◌++◌, length, take, OnOk, OnErr, IfOk};
 ghost use Rattle.page_faults.specs.Faults.{faults_of};
 ghost use Rattle.page_faults.specs.FaultsText.{fault_line, fault_lines, faults_text_of};
 
@@ -68,6 +68,7 @@ pub fn faults_text(
     ensures ok { OnOk result
         (out.new.items ≡ out.old.items ++ faults_text_of options.now relation block page.now) }
     ensures count { IfOk result (λ count. count ≡ length (faults_of options.now block page.now)) }
+    ensures few { IfOk result (λ count. count ≤ 8200) }
     ensures err { OnErr result (out.new.items ≡ out.old.items) }
 {
     let mut found = Vec::new(*out.allocator());

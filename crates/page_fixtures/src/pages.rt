@@ -92,8 +92,24 @@ pub fn bytes_of(alloc: Global, pages: &[Parts<'_>]) -> Result<Vec<u8>, AllocErro
     Ok(bytes)
 }
 
-/// The bytes of so many pages without items, each with its block number as `pd_prune_xid` and with
-/// its checksum. The one at `damaged` has the flag 8, so that it is invalid.
+/// A page without items, with its block number as `pd_prune_xid` and with its checksum. A damaged
+/// one has got the flag 8 since then, so that it is invalid.
+pub fn numbered_page(block: u32, damaged: bool) -> Page {
+    let mut page = page_of(EMPTY);
+    put_bytes(&mut page, PRUNE_XID, &block.to_le_bytes());
+    // The plain rule takes two milliseconds where a build does not optimize.
+    let sum = match NUMBERED_SUMS.get(block as usize) {
+        Some(sum) => *sum,
+        None => plain_checksum(page.bytes(), block),
+    };
+    let mut page = with_checksum(page, sum);
+    if damaged {
+        put_bytes(&mut page, FLAGS, &[8]);
+    }
+    page
+}
+
+/// The bytes of so many such pages, of which the one at `damaged` is invalid.
 pub fn numbered_pages(
     alloc: Global,
     blocks: u32,
@@ -101,19 +117,8 @@ pub fn numbered_pages(
 ) -> Result<Vec<u8>, AllocError> {
     let mut bytes = Vec::new(alloc);
     for block in 0..blocks {
-        let parts = if damaged == Some(block) {
-            FLAGGED
-        } else {
-            EMPTY
-        };
-        let mut page = page_of(parts);
-        put_bytes(&mut page, PRUNE_XID, &block.to_le_bytes());
-        // The plain rule takes two milliseconds where a build does not optimize.
-        let sum = match NUMBERED_SUMS.get(block as usize) {
-            Some(sum) if damaged != Some(block) => *sum,
-            _ => plain_checksum(page.bytes(), block),
-        };
-        bytes.extend_from_slice(with_checksum(page, sum).bytes())?;
+        let page = numbered_page(block, damaged == Some(block));
+        bytes.extend_from_slice(page.bytes())?;
     }
     Ok(bytes)
 }

@@ -1,8 +1,9 @@
 //! Texts of pages, beside texts that are written out or made by a plain rule.
-use heap_scan::page_text;
+use heap_scan::{damaged_text, page_text};
 use page_check::{Kind, LinePointer, Verdict, check};
 use page_fixtures::pages::{
-    BOUNDS, CONTENTS, ZEROS, bounds, line_pointer_bytes, page_of, put_bytes, valid_page_of,
+    BOUNDS, CONTENTS, DAMAGED, EMPTY, FLAGGED, FLAGS, Parts, ZEROS, bounds, line_pointer_bytes,
+    page_of, put_bytes, valid_page_of,
 };
 use std::alloc::{AllocError, Global};
 use std::process::Abort;
@@ -55,6 +56,52 @@ fn a_new_page_has_one_line(rt: HostRuntime) -> Result<(), Fail> {
         };
         page_text(relation, block, &page, &mut out)?;
         assert_eq!(rt; out.as_slice(), text.as_bytes(), "{text}");
+    }
+    Ok(())
+}
+
+// Its line pointers are not listed, of which the first has some.
+#[test]
+fn a_damaged_page_has_one_line(rt: HostRuntime) -> Result<(), Fail> {
+    let items = bounds(304, 256, 8192);
+    let rows: [((u32, u32), Parts<'_>, &str); 6] = [
+        (
+            (0, 10),
+            &[(FLAGS, &[2]), (BOUNDS, &items)],
+            "page 0 10 damaged flags 2 lower 304 upper 256 special 8192\n",
+        ),
+        (
+            (7, 1234567),
+            DAMAGED,
+            "page 7 1234567 damaged flags 0 lower 0 upper 0 special 0\n",
+        ),
+        (
+            (1, 0),
+            FLAGGED,
+            "page 1 0 damaged flags 8 lower 24 upper 8192 special 8192\n",
+        ),
+        // One whose header is sane is damaged by its checksum.
+        (
+            (0, 0),
+            EMPTY,
+            "page 0 0 damaged flags 0 lower 24 upper 8192 special 8192\n",
+        ),
+        (
+            (9999, 10000),
+            &[(FLAGS, &[0x10, 0x27, 0x0f, 0x27, 0xe8, 3, 99, 0])],
+            "page 9999 10000 damaged flags 10000 lower 9999 upper 1000 special 99\n",
+        ),
+        (
+            (u32::MAX, u32::MAX),
+            &[(0, &[0xff; 8192])],
+            "page 4294967295 4294967295 damaged flags 65535 lower 65535 upper 65535 special 65535\n",
+        ),
+    ];
+    for ((relation, block), parts, line) in rows {
+        let mut out = Vec::from_slice(rt.alloc(), b"before\n")?;
+        damaged_text(relation, block, &page_of(parts), &mut out)?;
+        let wanted = format!(in rt.alloc(); "before\n{line}")?;
+        assert_eq!(rt; out.as_slice(), wanted.as_str().as_bytes(), "{line}");
     }
     Ok(())
 }

@@ -11,9 +11,11 @@ use Rattle.read_callbacks.specs.declared.chain.CallbackId.TheVariants.{File, Buf
 use Rattle.read_callbacks.specs.Chain.{result_of, natural_part, is_negative, is_error}
 use Rattle.read_callbacks.specs.Chain.{first_bad}
 use Rattle.read_callbacks.specs.Chain.{stopped_at, after_file, after_buffer, Outcome, after_callback}
-use Rattle.read_callbacks.specs.declared.chain.CallbackId.TheVariants.{ZeroBuffer}
-use Rattle.read_callbacks.specs.Chain.{chain_result, has_check_behind_file, good_count, with_warning, after_zero}
-use Rattle.read_callbacks.specs.Chain.{bad_among, zeroed_first, raw_result, IsWithin}
+use Rattle.read_callbacks.specs.declared.chain.CallbackId.TheVariants.{ZeroBuffer, MarkBuffer}
+use Rattle.page_check.specs.declared.rules.PageMark.{PageMark}
+use Rattle.page_check.specs.declared.rules.PageMark.TheVariants.{Zeroed, Damaged}
+use Rattle.read_callbacks.specs.Chain.{chain_result, has_check_behind_file, good_count, with_warning}
+use Rattle.read_callbacks.specs.Chain.{bad_among, marked_first, after_marking, raw_result, IsWithin}
 use Rattle.read_callbacks.specs.declared.chain.Raw.{Raw}
 use Rattle.read_callbacks.specs.declared.chain.Raw.TheVariants.{Read, Failed}
 use Rattle.std.specs.Prelude.{IfSome}
@@ -49,22 +51,23 @@ buffer_below sums from pages p =
     either_below (is_error p.status) p _ (natural_part p.result) (le_refl (natural_part p.result))
     (stopped_below sums from pages p (first_bad sums from (take (natural_part p.result) pages)) refl)
 
-pub warned_same : (k : ℕ) (p : AioResult) → (with_warning k p).result ≡ p.result
-warned_same zero p = refl
-warned_same (suc k) p = refl
+pub warned_same : (mark : PageMark) (k : ℕ) (p : AioResult)
+    → (with_warning mark k p).result ≡ p.result
+warned_same mark zero p = refl
+warned_same mark (suc k) p = refl
 
 either_outcome_below : (b : Bool) (x y : Outcome) (n : ℕ) → Below n x.result → Below n y.result
     → Below n (if b then x else y).result
 either_outcome_below true x y n l r = l
 either_outcome_below false x y n l r = r
 
-pub zero_below : (sums : Bool) (from : ℕ) (o : Outcome)
-    → Below (natural_part o.result.result) (after_zero sums from o).result
-unfolding after_zero
-zero_below sums from o =
+marking_below : (mark : PageMark) (sums : Bool) (from : ℕ) (o : Outcome)
+    → Below (natural_part o.result.result) (after_marking mark sums from o).result
+unfolding after_marking
+marking_below mark sums from o =
     let n : ℕ = natural_part o.result.result in
-    let same = ap natural_part (warned_same (bad_among sums from (take n o.pages)) o.result) in
-    either_outcome_below (is_error o.result.status) o (zeroed_first sums from n o) n (le_refl n)
+    let same = ap natural_part (warned_same mark (bad_among sums from (take n o.pages)) o.result) in
+    either_outcome_below (is_error o.result.status) o (marked_first mark sums from n o) n (le_refl n)
     (omega arith)
 
 callback_below : (sums : Bool) (from count : ℕ) (id : CallbackId) (o : Outcome)
@@ -72,7 +75,8 @@ callback_below : (sums : Bool) (from count : ℕ) (id : CallbackId) (o : Outcome
 callback_below sums from count File o = file_below count o.result
 callback_below sums from count Buffer o = buffer_below sums from o.pages o.result
 callback_below sums from count Count o = le_refl (natural_part o.result.result)
-callback_below sums from count ZeroBuffer o = zero_below sums from o
+callback_below sums from count ZeroBuffer o = marking_below Zeroed sums from o
+callback_below sums from count MarkBuffer o = marking_below Damaged sums from o
 
 pub chain_below : (sums : Bool) (from count : ℕ) (ids : List CallbackId) (o : Outcome)
     → Below (natural_part o.result.result) (chain_result sums from count ids o).result

@@ -6,11 +6,8 @@ use Rattle.std.proofs.Math.Logic.{⊎_elim}
 use Rattle.std.proofs.lemmas.Option.{same_Some}
 use Rattle.read_callbacks.specs.declared.chain.CallbackId.{CallbackId}
 use Rattle.read_callbacks.specs.declared.chain.CallbackId.TheVariants.{File, Buffer, Count}
-use Rattle.read_callbacks.specs.declared.chain.CallbackId.TheVariants.{ZeroBuffer}
+use Rattle.read_callbacks.specs.declared.chain.CallbackId.TheVariants.{ZeroBuffer, MarkBuffer}
 use Rattle.read_callbacks.specs.Chain.{is_file, has_file, is_check, has_check_behind_file, ChecksBehindFile}
-
-abbrev IsCheckAt : List CallbackId → ℕ → Type 0
-IsCheckAt ids i = (slice_get ids i ≡ Some Buffer) ⊎ (slice_get ids i ≡ Some ZeroBuffer)
 
 both_or_later : (a b c : Bool) → ((a && b) || c) ≡ true → ((a ≡ true) × (b ≡ true)) ⊎ (c ≡ true)
 both_or_later true true c e = inl (refl, refl)
@@ -21,18 +18,12 @@ or_later : (a b : Bool) → b ≡ true → (a || b) ≡ true
 or_later true b e = refl
 or_later false b e = e
 
-check_first : (id : CallbackId) (ids : List CallbackId) → is_check id ≡ true
-    → IsCheckAt (id ∷ ids) 0
-check_first Buffer ids e = inl refl
-check_first ZeroBuffer ids e = inr refl
-check_first File ids e = absurd (cc)
-check_first Count ids e = absurd (cc)
-
 some_file : (ids : List CallbackId) → has_file ids ≡ true → (j : ℕ) × (slice_get ids j ≡ Some File)
 some_file [] e = absurd (cc)
 some_file (File ∷ ids) e = (0, refl)
 some_file (Buffer ∷ ids) e = let (j, at) = some_file ids e in (suc j, at)
 some_file (ZeroBuffer ∷ ids) e = let (j, at) = some_file ids e in (suc j, at)
+some_file (MarkBuffer ∷ ids) e = let (j, at) = some_file ids e in (suc j, at)
 some_file (Count ∷ ids) e = let (j, at) = some_file ids e in (suc j, at)
 
 has_at : (ids : List CallbackId) (j : ℕ) → slice_get ids j ≡ Some File → has_file ids ≡ true
@@ -48,32 +39,36 @@ places (id ∷ ids) e = ⊎_elim
       check = 0;
       file = suc j;
       order = omega arith;
-      checks = check_first id ids here.0;
+      id = id;
+      here = refl;
+      checks = here.0;
       reads = at;
     })
     (λ later. let p = places ids later in record {
       check = suc p.check;
       file = suc p.file;
       order = omega (arith, p.order);
+      id = p.id;
+      here = p.here;
       checks = p.checks;
       reads = p.reads;
     })
     (both_or_later (is_check id) (has_file ids) (has_check_behind_file ids) e)
 
-checked_at : (ids : List CallbackId) (i j : ℕ) → i < j → IsCheckAt ids i
-    → slice_get ids j ≡ Some File → has_check_behind_file ids ≡ true
-checked_at ids i zero lt check file = absurd (omega arith)
-checked_at [] i (suc j) lt check file = absurd (cc)
-checked_at (id ∷ ids) zero (suc j) lt check file =
-    let is : is_check id ≡ true = ⊎_elim
-    (λ b. ap is_check (same_Some id Buffer b))
-    (λ z. ap is_check (same_Some id ZeroBuffer z)) check in
-    ap (λ (x : Bool). (x && has_file ids) || has_check_behind_file ids) is
+checked_at : (ids : List CallbackId) (i j : ℕ) (check : CallbackId) → i < j
+    → slice_get ids i ≡ Some check → is_check check ≡ true → slice_get ids j ≡ Some File
+    → has_check_behind_file ids ≡ true
+checked_at ids i zero check lt here is file = absurd (omega arith)
+checked_at [] i (suc j) check lt here is file = absurd (cc)
+checked_at (id ∷ ids) zero (suc j) check lt here is file =
+    ap (λ (x : CallbackId). (is_check x && has_file ids) || has_check_behind_file ids)
+    (same_Some id check here)
+    ∙ ap (λ (x : Bool). (x && has_file ids) || has_check_behind_file ids) is
     ∙ ap (λ (x : Bool). x || has_check_behind_file ids) (has_at ids j file)
-checked_at (id ∷ ids) (suc i) (suc j) lt check file =
+checked_at (id ∷ ids) (suc i) (suc j) check lt here is file =
     or_later (is_check id && has_file ids) (has_check_behind_file ids)
-    (checked_at ids i j (omega arith) check file)
+    (checked_at ids i j check (omega arith) here is file)
 
 pub checked_by_places : (ids : List CallbackId) → (has_check_behind_file ids ≡ true) ↔ ChecksBehindFile ids
 checked_by_places ids =
-    (places ids, λ p. checked_at ids p.check p.file p.order p.checks p.reads)
+    (places ids, λ p. checked_at ids p.check p.file p.id p.order p.here p.checks p.reads)

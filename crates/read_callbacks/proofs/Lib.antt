@@ -3,4 +3,4 @@ pub mod ChainLowersResult
 pub mod ChainChangesPages
 pub mod CheckedPages
 pub mod ChecksByPlaces
-pub mod BadPagesZeroed
+pub mod BadPagesMarked

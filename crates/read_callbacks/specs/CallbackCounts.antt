@@ -3,7 +3,7 @@ use Rattle.std.specs.Prelude.{◌+◌, ◌-◌, ◌^◌, min, List, [], ◌∷�
 use Rattle.aio_result.specs.declared.AioResult.{AioResult}
 use Rattle.read_callbacks.specs.declared.chain.CallbackId.{CallbackId}
 use Rattle.read_callbacks.specs.declared.chain.CallbackId.TheVariants.{File, Buffer, Count}
-use Rattle.read_callbacks.specs.declared.chain.CallbackId.TheVariants.{ZeroBuffer}
+use Rattle.read_callbacks.specs.declared.chain.CallbackId.TheVariants.{ZeroBuffer, MarkBuffer}
 use Rattle.read_callbacks.specs.declared.callback_counts.Counts.{Counts}
 use Rattle.read_callbacks.specs.Chain.{natural_part}
 
@@ -21,3 +21,4 @@ counts_after (Count ∷ ids) r c = counts_after ids r (counts_after_callback r c
 counts_after (File ∷ ids) r c = counts_after ids r c
 counts_after (Buffer ∷ ids) r c = counts_after ids r c
 counts_after (ZeroBuffer ∷ ids) r c = counts_after ids r c
+counts_after (MarkBuffer ∷ ids) r c = counts_after ids r c

@@ -1,6 +1,6 @@
 -- The chain of callbacks of a read: from the raw answer and the pages that were read to the result
 -- and the pages that are held. The callbacks run from the last registered to the first.
-use Rattle.std.specs.Prelude.{◌≡◌, ℕ, ◌≤◌, ◌<◌, ◌⊎◌, Bool, true, false, ◌||◌, ◌&&◌, ◌==◌, cond}
+use Rattle.std.specs.Prelude.{◌≡◌, ℕ, ◌≤◌, ◌<◌, Bool, true, false, ◌||◌, ◌&&◌, ◌==◌, cond}
 use Rattle.std.specs.Prelude.{nat_lt, slice_get}
 use Rattle.std.specs.Prelude.{List, [], ◌∷◌, ◌++◌, length, map, take, drop, position, count_by}
 use Rattle.std.specs.Prelude.{replicate, Option, Some, None, if◌then◌else◌, zero, suc, ℤ, pos}
@@ -10,6 +10,8 @@ use Rattle.page_check.specs.declared.verdict.Verdict.{Verdict}
 use Rattle.page_check.specs.declared.verdict.Verdict.TheVariants.{Bad}
 use Rattle.page_check.specs.Checksum.{verdict_as}
 use Rattle.page_check.specs.SynchronousAnswer.{zero_page}
+use Rattle.page_check.specs.declared.rules.PageMark.{PageMark}
+use Rattle.page_check.specs.declared.rules.PageMark.TheVariants.{Valid, Zeroed, Damaged}
 use Rattle.aio_result.specs.declared.AioResult.{AioResult}
 use Rattle.aio_result.specs.declared.Status.{Status}
 use Rattle.aio_result.specs.declared.Status.TheVariants.{Good, Partial, Warning, Error}
@@ -19,7 +21,7 @@ use Rattle.read_callbacks.specs.declared.chain.Raw.{Raw}
 use Rattle.read_callbacks.specs.declared.chain.Raw.TheVariants.{Read, Failed}
 use Rattle.read_callbacks.specs.declared.chain.CallbackId.{CallbackId}
 use Rattle.read_callbacks.specs.declared.chain.CallbackId.TheVariants.{File, Buffer, Count}
-use Rattle.read_callbacks.specs.declared.chain.CallbackId.TheVariants.{ZeroBuffer}
+use Rattle.read_callbacks.specs.declared.chain.CallbackId.TheVariants.{ZeroBuffer, MarkBuffer}
 
 abbrev pub result_of : ℕ → Status → ℕ → ℤ → AioResult
 result_of id status error number =
@@ -91,61 +93,75 @@ after_buffer checksums first pages p =
     if is_error p.status then p
     else stopped_at p (first_bad checksums first (take (natural_part p.result) pages))
 
--- a result beside the pages that are then held, and which of them were set to zeros
+-- a result beside the pages that are then held, and what is said of each
 pub record Outcome : Type 0 where
   pub result : AioResult
   pub pages : List (List ℕ)
-  pub zeroed : List Bool
+  pub marks : List PageMark
 
-abbrev pub outcome_of : AioResult → List (List ℕ) → List Bool → Outcome
-outcome_of result pages zeroed = record { result = result; pages = pages; zeroed = zeroed }
+abbrev pub outcome_of : AioResult → List (List ℕ) → List PageMark → Outcome
+outcome_of result pages marks = record { result = result; pages = pages; marks = marks }
 
--- so many pages, none of which was set to zeros
-abbrev pub none_zeroed : ℕ → List Bool
-none_zeroed room = replicate room false
+-- so many pages, none of which was marked
+abbrev pub all_valid : ℕ → List PageMark
+all_valid room = replicate room Valid
 
 -- before any callback
 abbrev pub chain_start : Raw → List (List ℕ) → Outcome
-chain_start answer pages = outcome_of (raw_result answer) pages (none_zeroed (length pages))
+chain_start answer pages = outcome_of (raw_result answer) pages (all_valid (length pages))
 
--- zeros in place of a bad page
-abbrev pub zeros_if_bad : Bool → ℕ × List ℕ → List ℕ
-zeros_if_bad checksums x = if is_bad_block checksums x then zero_page else x.1
+-- what a bad page becomes that is marked so
+abbrev pub page_marked : PageMark → List ℕ → List ℕ
+page_marked Zeroed page = zero_page
+page_marked _ page = page
 
--- a page is zeroed where it was before, or is bad now
-abbrev pub mark_if_bad : Bool → (ℕ × List ℕ) × Bool → Bool
-mark_if_bad checksums x = is_bad_block checksums x.0 || x.1
+abbrev pub page_if_bad : PageMark → Bool → ℕ × List ℕ → List ℕ
+page_if_bad mark checksums x = if is_bad_block checksums x then page_marked mark x.1 else x.1
+
+-- a mark stays where the page is not bad
+abbrev pub mark_if_bad : PageMark → Bool → (ℕ × List ℕ) × PageMark → PageMark
+mark_if_bad mark checksums x = if is_bad_block checksums x.0 then mark else x.1
 
 -- all bad ones of these pages
-abbrev pub zeros_for_bad : Bool → ℕ → List (List ℕ) → List (List ℕ)
-zeros_for_bad checksums first pages = map (zeros_if_bad checksums) (with_blocks first pages)
+abbrev pub pages_for_bad : PageMark → Bool → ℕ → List (List ℕ) → List (List ℕ)
+pages_for_bad mark checksums first pages = map (page_if_bad mark checksums) (with_blocks first pages)
 
-abbrev pub marks_for_bad : Bool → ℕ → List (List ℕ) → List Bool → List Bool
-marks_for_bad checksums first pages zeroed =
-    map (mark_if_bad checksums) (zip (with_blocks first pages) zeroed)
+abbrev pub marks_for_bad : PageMark → Bool → ℕ → List (List ℕ) → List PageMark → List PageMark
+marks_for_bad mark checksums first pages marks =
+    map (mark_if_bad mark checksums) (zip (with_blocks first pages) marks)
+
+-- a mark that says more than that the page is valid
+abbrev pub is_marked : PageMark → Bool
+is_marked Valid = false
+is_marked _ = true
 
 -- how many of these pages are bad
 abbrev pub bad_among : Bool → ℕ → List (List ℕ) → ℕ
 bad_among checksums first pages = count_by (is_bad_block checksums) (with_blocks first pages)
 
--- a warning that says how many pages were zeroed, if any was
-abbrev pub with_warning : ℕ → AioResult → AioResult
-with_warning zero p = p
-with_warning (suc k) p = result_of 4 Warning (suc k) p.result
+-- the number of the callback that marks bad pages so
+abbrev pub marking_id : PageMark → ℕ
+marking_id Zeroed = 4
+marking_id _ = 5
 
--- the bad ones among the first n pages are set to zeros
-abbrev pub zeroed_first : Bool → ℕ → ℕ → Outcome → Outcome
-zeroed_first checksums first n o = record {
-  result = with_warning (bad_among checksums first (take n o.pages)) o.result;
-  pages = zeros_for_bad checksums first (take n o.pages) ++ drop n o.pages;
-  zeroed = marks_for_bad checksums first (take n o.pages) (take n o.zeroed) ++ drop n o.zeroed;
+-- a warning that says how many pages were marked, if any was
+abbrev pub with_warning : PageMark → ℕ → AioResult → AioResult
+with_warning mark zero p = p
+with_warning mark (suc k) p = result_of (marking_id mark) Warning (suc k) p.result
+
+-- the bad ones among the first n pages are marked
+abbrev pub marked_first : PageMark → Bool → ℕ → ℕ → Outcome → Outcome
+marked_first mark checksums first n o = record {
+  result = with_warning mark (bad_among checksums first (take n o.pages)) o.result;
+  pages = pages_for_bad mark checksums first (take n o.pages) ++ drop n o.pages;
+  marks = marks_for_bad mark checksums first (take n o.pages) (take n o.marks) ++ drop n o.marks;
 }
 
--- an error stays; else the bad pages among those that were read become zeros
-unfoldable pub after_zero : Bool → ℕ → Outcome → Outcome
-after_zero checksums first o =
+-- an error stays; else the bad pages among those that were read are marked
+unfoldable pub after_marking : PageMark → Bool → ℕ → Outcome → Outcome
+after_marking mark checksums first o =
     if is_error o.result.status then o
-    else zeroed_first checksums first (natural_part o.result.result) o
+    else marked_first mark checksums first (natural_part o.result.result) o
 
 -- what one callback makes of the outcome before it, in a read of so many blocks from the first on
 abbrev pub after_callback : Bool → ℕ → ℕ → CallbackId → Outcome → Outcome
@@ -153,7 +169,8 @@ after_callback checksums first count File o = record o { result = after_file cou
 after_callback checksums first count Buffer o =
     record o { result = after_buffer checksums first o.pages o.result }
 after_callback checksums first count Count o = o
-after_callback checksums first count ZeroBuffer o = after_zero checksums first o
+after_callback checksums first count ZeroBuffer o = after_marking Zeroed checksums first o
+after_callback checksums first count MarkBuffer o = after_marking Damaged checksums first o
 
 -- the callbacks run from the last registered to the first
 abbrev pub chain_result : Bool → ℕ → ℕ → List CallbackId → Outcome → Outcome
@@ -168,18 +185,22 @@ is_file _ = false
 abbrev pub has_file : List CallbackId → Bool
 has_file ids = list_any is_file ids
 
--- a Buffer or ZeroBuffer is registered before a File, and so runs after it
+-- a callback checks pages
+abbrev pub is_check : CallbackId → Bool
+is_check Buffer = true
+is_check ZeroBuffer = true
+is_check MarkBuffer = true
+is_check _ = false
+
+-- one that checks pages is registered before a File, and so runs after it
 pub record ChecksBehindFile (ids : List CallbackId) : Type 0 where
   pub check : ℕ
   pub file : ℕ
   pub order : check < file
-  pub checks : (slice_get ids check ≡ Some Buffer) ⊎ (slice_get ids check ≡ Some ZeroBuffer)
+  pub id : CallbackId
+  pub here : slice_get ids check ≡ Some id
+  pub checks : is_check id ≡ true
   pub reads : slice_get ids file ≡ Some File
-
-abbrev pub is_check : CallbackId → Bool
-is_check Buffer = true
-is_check ZeroBuffer = true
-is_check _ = false
 
 -- whether one is so registered
 abbrev pub has_check_behind_file : List CallbackId → Bool

@@ -2,7 +2,7 @@
 use Rattle.std.specs.Prelude.{◌≡◌, ℕ, List, ◌++◌, Option, Some, None, Bool}
 use Rattle.aio_word.specs.declared.WaitRef.{WaitRef}
 
--- one block is done under a wait reference, with its page where that is good and was not zeroed
+-- one block is done under a wait reference, with its page where that is good and not marked
 pub record Finish : Type 0 where
   pub relation : ℕ
   pub block : ℕ

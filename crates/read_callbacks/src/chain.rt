@@ -1,14 +1,14 @@
 //! The callbacks of a read, and the chain of them.
-ghost use Rattle.std.specs.Prelude.{◌≡◌, ◌≤◌, ◌<◌, ◌+◌, ◌^◌, length, pos, IfSome};
-ghost use Rattle.read_callbacks.specs.Chain.{natural_part, is_bad, first_bad, is_error, raw_result};
-ghost use Rattle.read_callbacks.specs.Chain.{class_of, IsWithin, after_file, after_buffer};
-ghost use Rattle.read_callbacks.specs.Chain.{outcome_of, after_zero, after_callback, chain_result};
-ghost use Rattle.read_callbacks.specs.Chain.{zeros_if_bad, bad_among, zeros_for_bad, marks_for_bad};
+ghost use Rattle.std.specs.Prelude.{◌≡◌, ◌≤◌, ◌+◌, ◌^◌, length, pos};
+ghost use Rattle.read_callbacks.specs.Chain.{natural_part, is_error, raw_result, class_of};
+ghost use Rattle.read_callbacks.specs.Chain.{IsWithin, after_file, after_buffer, marking_id};
+ghost use Rattle.read_callbacks.specs.Chain.{outcome_of, after_marking, after_callback, chain_result};
 ghost use Rattle.read_callbacks.specs.Chain.{has_file, has_check_behind_file};
 
+use crate::bad_pages::{first_bad_page, mark_bad_pages};
 use aio_result::{AioResult, Status};
 use aio_word::Class;
-use page_check::{Page, Verdict, check_as};
+use page_check::{Page, PageMark};
 
 /// What runs when a read has ended (`PgAioHandleCallbackID` of `aio.h`). A record names its
 /// callbacks in the order of registration; they run from the last to the first.
@@ -23,6 +23,9 @@ pub enum CallbackId {
     /// Checks the pages, and sets the bad ones to zeros (`buffer_readv_complete` of `bufmgr.c`
     /// under `zero_damaged_pages`).
     ZeroBuffer = 4,
+    /// Checks the pages, and marks the bad ones and leaves them as they are (the same under
+    /// `ignore_checksum_failure`).
+    MarkBuffer = 5,
 }
 
 /// What a read answered.
@@ -103,25 +106,6 @@ fn run_file(count: u32, before: AioResult) -> AioResult
     }
 }
 
-fn is_bad_page(page: &Page, block: u32, checksums: bool) -> bool
-    ensures { result ≡ is_bad checksums block page.now }
-{
-    matches!(check_as(page, block, checksums), Verdict::Bad)
-}
-
-fn first_bad_page(pages: &[Page], first: u32, checksums: bool) -> Option<usize>
-    requires in_range { first + length pages.now ≤ 2 ^ 32 }
-    ensures value { result ≡ first_bad checksums first pages.now }
-    ensures within { IfSome result (λ place. place < length pages.now) }
-{
-    for index in 0..pages.len() {
-        if is_bad_page(&pages[index], first + index as u32, checksums) {
-            return Some(index);
-        }
-    }
-    None
-}
-
 fn is_error_status(status: Status) -> bool
     ensures { result ≡ is_error status }
 {
@@ -150,61 +134,47 @@ fn run_buffer(pages: &[Page], first: u32, checksums: bool, before: AioResult) ->
     }
 }
 
-// Sets a bad page to zeros, and says whether it was bad.
-fn zero_if_bad(page: &mut Page, block: u32, checksums: bool) -> bool
-    ensures bad { result ≡ is_bad checksums block page.old }
-    ensures zeros { page.new ≡ zeros_if_bad checksums (block, page.old) }
+fn marking_id(mark: PageMark) -> u8
+    ensures { result ≡ marking_id mark }
 {
-    let bad = is_bad_page(page, block, checksums);
-    if bad {
-        page.bytes_mut().fill(0);
+    match mark {
+        PageMark::Zeroed => CallbackId::ZeroBuffer as u8,
+        _ => CallbackId::MarkBuffer as u8,
     }
-    bad
 }
 
-// Sets the bad ones of these pages to zeros, and counts them.
-fn zero_bad_pages(pages: &mut [Page], zeroed: &mut [bool], first: u32, checksums: bool) -> u32
-    requires many { length pages.old ≤ 128 }
-    requires marks { length zeroed.old ≡ length pages.old }
-    requires in_range { first + length pages.old ≤ 2 ^ 32 }
-    ensures count { result ≡ bad_among checksums first pages.old }
-    ensures pages { pages.new ≡ zeros_for_bad checksums first pages.old }
-    ensures zeroed { zeroed.new ≡ marks_for_bad checksums first pages.old zeroed.old }
-{
-    let mut count = 0;
-    for index in 0..pages.len() {
-        if zero_if_bad(&mut pages[index], first + index as u32, checksums) {
-            zeroed[index] = true;
-            count += 1;
-        }
-    }
-    count
-}
-
-#[tactic(auto, unfolding(crate::specs::Chain::after_zero))]
-fn run_zero(
+#[tactic(auto, unfolding(crate::specs::Chain::after_marking))]
+fn run_marking(
+    mark: PageMark,
     pages: &mut [Page],
-    zeroed: &mut [bool],
+    marks: &mut [PageMark],
     first: u32,
     checksums: bool,
     before: AioResult,
 ) -> AioResult
     requires many { length pages.old ≤ 128 }
-    requires marks { length zeroed.old ≡ length pages.old }
+    requires marks { length marks.old ≡ length pages.old }
     requires within { natural_part before.result ≤ length pages.old }
     requires in_range { first + natural_part before.result ≤ 2 ^ 32 }
-    ensures { outcome_of result pages.new zeroed.new
-        ≡ after_zero checksums first (outcome_of before pages.old zeroed.old) }
+    ensures value { outcome_of result pages.new marks.new
+        ≡ after_marking mark checksums first (outcome_of before pages.old marks.old) }
+    ensures below { natural_part result.result ≤ natural_part before.result }
 {
     let failed = is_error_status(before.status);
     if failed {
         return before;
     }
     let read = page_count(before.result) as usize;
-    match zero_bad_pages(&mut pages[..read], &mut zeroed[..read], first, checksums) {
+    match mark_bad_pages(
+        mark,
+        &mut pages[..read],
+        &mut marks[..read],
+        first,
+        checksums,
+    ) {
         0 => before,
         count => AioResult {
-            id: CallbackId::ZeroBuffer as u8,
+            id: marking_id(mark),
             status: Status::Warning,
             error: count,
             result: before.result,
@@ -219,24 +189,29 @@ fn run_callback(
     first: u32,
     count: u32,
     pages: &mut [Page],
-    zeroed: &mut [bool],
+    marks: &mut [PageMark],
     before: AioResult,
 ) -> AioResult
     requires many { length pages.old ≤ 128 }
-    requires marks { length zeroed.old ≡ length pages.old }
+    requires marks { length marks.old ≡ length pages.old }
     requires within { natural_part before.result ≤ length pages.old }
     requires in_range { first + natural_part before.result ≤ 2 ^ 32 }
-    ensures value { outcome_of result pages.new zeroed.new
-        ≡ after_callback checksums first count id (outcome_of before pages.old zeroed.old) }
+    ensures value { outcome_of result pages.new marks.new
+        ≡ after_callback checksums first count id (outcome_of before pages.old marks.old) }
     ensures below { natural_part result.result ≤ natural_part before.result }
     ensures room { (length pages.new ≡ length pages.old)
-        × (length zeroed.new ≡ length zeroed.old) }
+        × (length marks.new ≡ length marks.old) }
 {
     match id {
         CallbackId::File => run_file(count, before),
         CallbackId::Buffer => run_buffer(pages, first, checksums, before),
         CallbackId::Count => before,
-        CallbackId::ZeroBuffer => run_zero(pages, zeroed, first, checksums, before),
+        CallbackId::ZeroBuffer => {
+            run_marking(PageMark::Zeroed, pages, marks, first, checksums, before)
+        }
+        CallbackId::MarkBuffer => {
+            run_marking(PageMark::Damaged, pages, marks, first, checksums, before)
+        }
     }
 }
 
@@ -244,31 +219,31 @@ fn run_callback(
 /// `aio_callback.c`).
 ///
 /// `first` and `count` are the blocks that were asked for. `raw` is the result before any callback.
-/// `pages` are those that were read, and `zeroed` says which of them were set to zeros.
+/// `pages` are those that were read, and `marks` says what is said of each.
 pub fn run_chain(
     ids: &[CallbackId],
     checksums: bool,
     first: u32,
     count: u32,
     pages: &mut [Page],
-    zeroed: &mut [bool],
+    marks: &mut [PageMark],
     raw: AioResult,
 ) -> AioResult
     requires many { length pages.old ≤ 128 }
-    requires marks { length zeroed.old ≡ length pages.old }
+    requires marks { length marks.old ≡ length pages.old }
     requires within { natural_part raw.result ≤ length pages.old }
     requires in_range { first + natural_part raw.result ≤ 2 ^ 32 }
-    ensures value { outcome_of result pages.new zeroed.new
-        ≡ chain_result checksums first count ids.now (outcome_of raw pages.old zeroed.old) }
+    ensures value { outcome_of result pages.new marks.new
+        ≡ chain_result checksums first count ids.now (outcome_of raw pages.old marks.old) }
     ensures below { natural_part result.result ≤ natural_part raw.result }
     ensures room { (length pages.new ≡ length pages.old)
-        × (length zeroed.new ≡ length zeroed.old) }
+        × (length marks.new ≡ length marks.old) }
 {
     match ids {
         [] => raw,
         [id, others @ ..] => {
-            let before = run_chain(others, checksums, first, count, pages, zeroed, raw);
-            run_callback(*id, checksums, first, count, pages, zeroed, before)
+            let before = run_chain(others, checksums, first, count, pages, marks, raw);
+            run_callback(*id, checksums, first, count, pages, marks, before)
         }
     }
 }
@@ -282,15 +257,16 @@ fn has_file_in(ids: &[CallbackId]) -> bool
     }
 }
 
-/// Whether pages are verified: some Buffer or ZeroBuffer runs after some File.
+/// Whether pages are verified: some Buffer, ZeroBuffer or MarkBuffer runs after some File.
 pub fn verifies_pages(ids: &[CallbackId]) -> bool
     ensures { result ≡ has_check_behind_file ids.now }
 {
     match ids {
         [] => false,
-        [CallbackId::Buffer | CallbackId::ZeroBuffer, others @ ..] => {
-            has_file_in(others) || verifies_pages(others)
-        }
+        [
+            CallbackId::Buffer | CallbackId::ZeroBuffer | CallbackId::MarkBuffer,
+            others @ ..,
+        ] => { has_file_in(others) || verifies_pages(others) }
         [_, others @ ..] => verifies_pages(others),
     }
 }

@@ -9,9 +9,10 @@
 //!
 //! Result, pages and marks are those of `chain_result`: what the callbacks make of the answer, from
 //! the last registered to the first. `specs/Chain.antt` says what each of them does, and
-//! `specs/GoodPages.antt` when a page may be handed on.
+//! `specs/GoodPages.antt` what is held of a block by its mark.
 #![tactic(auto)]
 
+mod bad_pages;
 mod callback_counts;
 mod chain;
 mod places;

@@ -1,5 +1,5 @@
 -- What the inside of a stream answers, as its callers see it.
-use Rattle.std.proofs.Common.{◌≡◌, ◌<◌, ℕ, List, [], true, ap, append-nil, arith, length}
+use Rattle.std.proofs.Common.{◌≡◌, ◌<◌, ℕ, List, [], ap, append-nil, arith, length}
 use Rattle.std.proofs.Common.{refl, subst, sym}
 use Rattle.std.proofs.lemmas.List.{length-map}
 use Rattle.std.specs.Prelude.{Option, IfSome, slice_get}
@@ -17,12 +17,12 @@ use Rattle.read_stream.specs.declared.stream.ReadStream.{ReadStream}
 use Rattle.read_stream.specs.declared.queue.QueuedBlock.{QueuedBlock}
 use Rattle.read_stream.specs.declared.reads.EndedRead.{EndedRead}
 use Rattle.read_stream.specs.AtHand.{answer_with, ending_at_hand}
-use Rattle.stream_answer.specs.StreamAnswers.{IfZeroed, stream_entries, stream_entry}
+use Rattle.stream_answer.specs.StreamAnswers.{stream_entries, stream_entry}
 use Rattle.read_stream.specs.FailedReads.{MayBeUnread}
 use Rattle.read_stream.specs.StreamState.{IsOpen, answer_at_hand, entries_at_open, stream_view}
 use Rattle.read_stream.specs.StreamViews.{StreamView, IsActorAsLeft}
 use Rattle.read_stream.specs.StreamViews.{IsSameStream, IsStreamAnswer, stream_after}
-use Rattle.stream_answer.proofs.AnswerPages.{next_valid, page_within}
+use Rattle.stream_answer.proofs.AnswerPages.{next_allowed, next_valid, page_within}
 
 -- an actor is as it was just left
 pub as_left : (left now : ActorView) → left ≡ now → IsActorAsLeft left now
@@ -88,10 +88,11 @@ module _ {W S P : Type 0} (left : S → List (ℕ × P)) (world : WorldGhosts W)
       (x : Said P) → m ≡ record s { actor_is = noted } → IsOpen left world m
       → IsNext (reading_of m.scope.rules world.told) (MayBeUnread m.scope.was.value now.known)
       (entries_at_open left world m) (stream_view left m).given x
-      → IfZeroed x (s.desk.now.settings.rules.zero ≡ true)
       → IsStreamAnswer world.told (stream_view left s) now x
-  answer_seen s m noted now x same o next zeroed =
+  answer_seen s m noted now x same o next =
       let v : StreamView P = stream_view left s in
+      let may : Entry P → Type 0 = MayBeUnread v.actor_was now.known in
+      let entries = stream_entries v.relation v.blocks in
       let settled = subst (λ (z : PageRules). IsNext (reading_of z world.told)
       (MayBeUnread m.scope.was.value now.known) (entries_at_open left world m)
       (stream_view left m).given x) o.between.invariant.set_up.rules next in
@@ -101,8 +102,7 @@ module _ {W S P : Type 0} (left : S → List (ℕ × P)) (world : WorldGhosts W)
       (stream_view left z).given x) same settled in
       record {
         next = here;
-        valid = next_valid v.settings.rules world.told (MayBeUnread v.actor_was now.known)
-            (stream_entries v.relation v.blocks) v.given x here;
-        zeroed = zeroed;
-        within = page_left world.told v (MayBeUnread v.actor_was now.known) x here;
+        valid = next_valid v.settings.rules world.told may entries v.given x here;
+        marked = next_allowed v.settings.rules world.told may entries v.given x here;
+        within = page_left world.told v may x here;
       }

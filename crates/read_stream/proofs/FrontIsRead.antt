@@ -2,8 +2,9 @@
 use Rattle.std.proofs.Common.{◌≡◌, ◌≢◌, ℕ, ◌+◌, ◌-◌, ◌<◌, List, [], ◌∷◌, ◌++◌, length, drop}
 use Rattle.std.proofs.Common.{refl, sym, ap, arith, ◌∙◌, subst, inr, ⊎_elim}
 use Rattle.std.proofs.Common.{length-append}
-use Rattle.std.specs.Prelude.{Option, Some, None, slice_get, Bool}
+use Rattle.std.specs.Prelude.{Option, Some, None, slice_get}
 use Rattle.std.specs.List.{flat_map}
+use Rattle.page_check.specs.declared.rules.DamagedPages.{DamagedPages}
 use Rattle.page_check.specs.declared.world.World.{Ghosts as WorldGhosts}
 use Rattle.aio_word.specs.declared.Class.TheVariants.{Unended}
 use Rattle.aio_word.specs.declared.Known.{Known}
@@ -79,7 +80,8 @@ module _ {W S P : Type 0} (left : S → List (ℕ × P)) (world : WorldGhosts W)
   pub oldest_facts : (block : ℕ) → IsReadInFront left world block p s → (e : EndedRead)
       → slice_get s.desk.now.reads.ended.items 0 ≡ Some e
       → (e.given < e.io.count) × ReadFits world.told world.relations e.io
-      × (e.io.label.ended ≢ Unended) × (zero : Bool) × (e.io.ids ≡ stream_ids zero)
+      × (e.io.label.ended ≢ Unended) × (damaged : DamagedPages)
+      × (e.io.ids ≡ stream_ids damaged)
   oldest_facts block f e at =
       let u = f.underway in
       let g = u.running in
@@ -87,7 +89,7 @@ module _ {W S P : Type 0} (left : S → List (ℕ × P)) (world : WorldGhosts W)
       g.reads.reads_for e at in
       let taken = u.invariant.records.issued.records.ended_records e
       (first-in s.desk.now.reads.ended.items e at) in
-      (omega arith, taken.fits, taken.has_ended, s.scope.rules.zero, taken.is_stream_record.ids)
+      (omega arith, taken.fits, taken.has_ended, s.scope.rules.damaged, taken.is_stream_record.ids)
 
   -- where the block at the front is read and started, not all records are free
   pub some_read : (block : ℕ) → Underway left world p s

@@ -1,15 +1,16 @@
 -- What a stream has at hand is the next answer.
 use Rattle.std.specs.Prelude.{Bool}
-use Rattle.std.proofs.Common.{◌≡◌, ℕ, ◌+◌, ◌-◌, List, [], ◌∷◌, ◌++◌, map, drop, true, false, refl}
+use Rattle.std.proofs.Common.{◌≡◌, ℕ, ◌+◌, ◌-◌, List, [], ◌∷◌, ◌++◌, map, drop, true, refl}
 use Rattle.std.proofs.Common.{subst, arith}
 use Rattle.std.specs.Prelude.{None, Option, IfSome, is_some, slice_get}
 use Rattle.page_check.specs.declared.world.World.{Ghosts as WorldGhosts}
+use Rattle.page_check.specs.declared.rules.PageMark.TheVariants.{Valid}
 use Rattle.page_check.specs.PageBytes.{IsPage}
 use Rattle.page_check.specs.Told.{Told}
 use Rattle.page_check.specs.IsAnswer.{IfPage, Next as Said, Stop as SaidStop}
 use Rattle.aio_word.specs.declared.Known.{Known}
 use Rattle.read_callbacks.specs.GoodPages.{IsGood}
-use Rattle.aio_callback.specs.ReadIoView.{record_page, record_zeroed}
+use Rattle.aio_callback.specs.ReadIoView.{record_page, record_mark}
 use Rattle.buf_pool.specs.LookupAnswers.{pinned_page}
 use Rattle.read_stream.specs.declared.at_hand.AtHand.{AtHand}
 use Rattle.read_stream.specs.declared.at_hand.AtHand.TheVariants as at_hand
@@ -55,7 +56,7 @@ module _ {W S P : Type 0} (left : S → List (ℕ × P)) (world : WorldGhosts W)
 
   pinned-next : (page : List ℕ) (block : ℕ) (f : HasInFront queue block [])
       → IsGood world.told s.scope.rules.checksums s.scope.relation block page → HasPosition left world s
-      → IsNextPage (page_answer s.scope.relation block f.asked.per_buffer_data page false)
+      → IsNextPage (page_answer s.scope.relation block f.asked.per_buffer_data page Valid)
   pinned-next page block f good at =
       let item : ℕ × P = (block, f.asked.per_buffer_data) in
       next-page s.scope.rules (MayBeUnread s.scope.was.value p) (entries_at_open left world s)
@@ -63,19 +64,19 @@ module _ {W S P : Type 0} (left : S → List (ℕ × P)) (world : WorldGhosts W)
       (mapped-at (stream_entry s.scope.relation) (list_at_open left world s) _ item
       (here-at (list_at_open left world s) _ item rest
       (left_of left world s block [] f at)))
-      world.told page false at.readable (λ never. absurd (cc)) good
+      world.told page Valid at.readable tt good
 
   lent-next : (block : ℕ)
       (o : IsNextOfOldest world.told s.desk.now.reads.ended.items queue block part.Page)
       → HasRecords world s.scope p s.desk.now.reads → HasPosition left world s
       → IsNextPage (page_answer s.scope.relation block o.in_front.asked.per_buffer_data
-      (record_page o.oldest.io o.oldest.given) (record_zeroed o.oldest.io o.oldest.given))
+      (record_page o.oldest.io o.oldest.given) (record_mark o.oldest.io o.oldest.given))
   lent-next block o records at =
       let io = o.oldest.io in
       let is_block = o.is_block in
       let place : block - io.first ≡ o.oldest.given = omega arith in
       subst (λ (k : ℕ). IsNextPage (page_answer s.scope.relation block
-      o.in_front.asked.per_buffer_data (record_page io k) (record_zeroed io k))) place
+      o.in_front.asked.per_buffer_data (record_page io k) (record_mark io k))) place
       (page_is_next s.scope world (list_at_open left world s) (returned_count left s) block
       o.in_front.asked.per_buffer_data rest
       (left_of left world s block (block ∷ []) o.in_front at) at.readable p io

@@ -61,5 +61,5 @@ module _ {W : Type 0} where
 
 -- nothing was given, and so all of it can be read
 pub none-given : (found : Reading) (f : Reader → ℕ) → IfKnown found (λ r. 0 ≤ f r)
-none-given (Unknown checksums) f = tt
+none-given (Unknown rules) f = tt
 none-given (KnownReader r) f = omega arith

@@ -1,97 +1,99 @@
 -- What may be answered next, by what is known of the block at that place.
-use Rattle.std.proofs.Common.{◌≡◌, ℕ, ◌+◌, ◌≤◌, Bool, true, false, List, length, refl, sym, subst}
-use Rattle.std.proofs.Common.{ap}
-use Rattle.std.specs.Prelude.{Option, Some, None, IfSome, slice_get, cond}
+use Rattle.std.proofs.Common.{◌≡◌, ℕ, ◌+◌, ◌≤◌, List, length, refl, sym, subst, ap, ◌∙◌}
+use Rattle.std.specs.Prelude.{Option, Some, None, IfSome, slice_get}
 use Rattle.page_check.specs.PageBytes.{IsPage}
-use Rattle.page_check.specs.Told.{Told}
-use Rattle.page_check.specs.SynchronousAnswer.{Entry, Found, End, Invalid, PastEnd, Unread}
-use Rattle.page_check.specs.SynchronousAnswer.{Page as FoundPage, Zeroed, Damaged, Absent}
-use Rattle.page_check.specs.SynchronousAnswer.{found_at, zeroed_if_damaged, reading_of, read_count}
+use Rattle.page_check.specs.Told.{Told, relation_block_count, relation_page}
+use Rattle.page_check.specs.Checksum.{verdict_as, IsValidAs}
+use Rattle.page_check.specs.declared.rules.DamagedPages.{DamagedPages}
+use Rattle.page_check.specs.declared.rules.DamagedPages.TheVariants as damaged_pages
+use Rattle.page_check.specs.declared.rules.PageMark.{PageMark}
+use Rattle.page_check.specs.declared.rules.PageMark.TheVariants.{Valid, Zeroed, Damaged}
+use Rattle.page_check.specs.declared.rules.PageRules.{PageRules}
+use Rattle.page_check.specs.declared.verdict.Verdict.TheVariants.{Bad}
+use Rattle.page_check.specs.SynchronousAnswer.{Entry, End, Invalid, PastEnd, Unread, AllowsMark}
+use Rattle.page_check.specs.SynchronousAnswer.{Page as FoundPage, IfKnown, IsMarkedAs, found_at}
+use Rattle.page_check.specs.SynchronousAnswer.{found_by_verdict, reading_of, read_count}
 use Rattle.page_check.specs.IsAnswer.{Page, Stop, IsNext}
 use Rattle.page_check.proofs.NextAnswer as found
-use Rattle.page_check.proofs.VerifiedPages.{zero_page_valid_as}
-use Rattle.read_callbacks.specs.GoodPages.{IsGivenAs}
-use Rattle.page_check.specs.SynchronousAnswer.{IfKnown, IfUnknown, zero_page}
-use Rattle.page_check.specs.Checksum.{IsValidAs}
-use Rattle.page_check.specs.declared.rules.PageRules.{PageRules}
+use Rattle.page_check.proofs.SynchronousReads.{found_at-page, found_at-damaged, found_at-absent}
+use Rattle.read_callbacks.specs.GoodPages.{IsGivenAs, HasBadPage}
 
 -- the first k entries can be read
 abbrev pub ReadableUpTo : {P : Type 0} → PageRules → Option Told → ℕ → List (Entry P) → Type 0
 ReadableUpTo rules told k es = IfKnown (reading_of rules told) (λ f. k ≤ read_count f es)
 
--- a page is found as it is, with damaged pages zeroed or not
-page-found : (zero : Bool) (f : Found) (page : List ℕ) → f ≡ FoundPage page
-    → cond zero (zeroed_if_damaged f) f ≡ FoundPage page
-page-found false f page is = is
-page-found true f page is = ap zeroed_if_damaged is
+module _ (rules : PageRules) (relation block : ℕ) where
+  -- a page that its owner gives has a mark that is true of it
+  is-marked : (mark : PageMark) (page : List ℕ) → AllowsMark rules.damaged mark
+      → IsGivenAs None rules.checksums relation block page mark → IsMarkedAs rules block mark page
+  is-marked Valid page allowed given = given.valid
+  is-marked Zeroed page allowed given = (allowed, given.zeros)
+  is-marked Damaged page allowed given = (allowed, given.bad)
 
--- a damaged one is found zeroed where damaged ones are
-zeros-found : (zero : Bool) (f : Found) → zero ≡ true → f ≡ Damaged
-    → cond zero (zeroed_if_damaged f) f ≡ Zeroed
-zeros-found false f on is = absurd (cc)
-zeros-found true f on is = ap zeroed_if_damaged is
+  module _ (t : Told) where
+    abbrev contents : List ℕ
+    contents = relation_page t relation block
 
--- and found damaged where they are not
-damage-found : (zero : Bool) (f : Found) → zero ≡ false → f ≡ Damaged
-    → cond zero (zeroed_if_damaged f) f ≡ Damaged
-damage-found false f off is = is
-damage-found true f off is = absurd (cc)
+    -- a bad one gives what this rule says
+    bad-found : (damaged : DamagedPages) → rules.damaged ≡ damaged
+        → HasBadPage (Some t) rules.checksums relation block
+        → found_at rules t relation block ≡ found_by_verdict damaged Bad contents
+    bad-found damaged rule (below, bad) =
+        found_at-damaged rules t relation block below bad
+        ∙ ap (λ (d : DamagedPages). found_by_verdict d Bad contents) rule
 
--- no page is found either way
-absence-found : (zero : Bool) (f : Found) → f ≡ Absent
-    → cond zero (zeroed_if_damaged f) f ≡ Absent
-absence-found false f is = is
-absence-found true f is = ap zeroed_if_damaged is
+    -- such a page is found
+    is-found : (mark : PageMark) (page : List ℕ) → AllowsMark rules.damaged mark
+        → IsGivenAs (Some t) rules.checksums relation block page mark
+        → found_at rules t relation block ≡ FoundPage mark page
+    is-found Valid page allowed given =
+        let (below, same) = given.contents in
+        found_at-page rules t relation block below
+        (subst (λ (z : List ℕ). IsValidAs rules.checksums block z) (sym same) given.valid)
+        ∙ ap (λ (z : List ℕ). FoundPage Valid z) same
+    is-found Zeroed page allowed given =
+        bad-found damaged_pages.Zero allowed given.told_bad
+        ∙ ap (λ (z : List ℕ). FoundPage Zeroed z) (sym given.zeros)
+    is-found Damaged page allowed given =
+        let (below, same) = given.contents in
+        bad-found damaged_pages.Give allowed
+        (below, subst (λ (z : List ℕ). verdict_as rules.checksums block z ≡ Bad) (sym same) given.bad)
+        ∙ ap (λ (z : List ℕ). FoundPage Damaged z) same
 
 module _ {P : Type 0} (rules : PageRules) (may : Entry P → Type 0) (es : List (Entry P)) (k : ℕ)
     (e : Entry P) (at : slice_get es k ≡ Some e) where
-  -- where the contents are told, this is found for the entry
-  abbrev Finds : Option Told → Found → Type 0
-  Finds told has_current_page = IfKnown (reading_of rules told)
-      (λ f. f e.relation e.block ≡ has_current_page)
-
-  finds : (told : Option Told) (was has_current_page : Found)
-      → ((f : Found) → f ≡ was → cond rules.zero (zeroed_if_damaged f) f ≡ has_current_page)
-      → IfSome told (λ t. found_at rules.checksums t e.relation e.block ≡ was) → Finds told has_current_page
-  finds None was has_current_page turns is = tt
-  finds (Some t) was has_current_page turns is = turns (found_at rules.checksums t e.relation e.block) is
-
-  valid_unknown : (told : Option Told) (page : List ℕ) → IsValidAs rules.checksums e.block page
-      → IfUnknown (reading_of rules told) (λ checksums. IsValidAs checksums e.block page)
-  valid_unknown None page valid = valid
-  valid_unknown (Some t) page valid = tt
-
-  -- a page, zeroed or not, only where damaged pages are
-  pub next-page : (told : Option Told) (page : List ℕ) (zeroed : Bool) → ReadableUpTo rules told k es
-      → (zeroed ≡ true → rules.zero ≡ true) → IsGivenAs told rules.checksums e.relation e.block page zeroed
+  -- a page, with a mark that the rule on damaged pages allows
+  pub next-page : (told : Option Told) (page : List ℕ) (mark : PageMark)
+      → ReadableUpTo rules told k es → AllowsMark rules.damaged mark
+      → IsGivenAs told rules.checksums e.relation e.block page mark
       → (IsPage page → IsNext (reading_of rules told) may es k
-      (Page (record { entry = e; page = page; zeroed = zeroed })))
+      (Page (record { entry = e; page = page; mark = mark })))
       × ReadableUpTo rules told (k + 1) es
-  next-page told page false far on good =
-      found.next-page may es k e at (reading_of rules told) (FoundPage page) far refl
-      (valid_unknown told page good.valid)
-      (finds told (FoundPage page) (FoundPage page) (λ f is. page-found rules.zero f page is)
-      good.told_page)
-  next-page told page true far on bad =
-      subst (λ (z : List ℕ). (IsPage z → IsNext (reading_of rules told) may es k
-      (Page (record { entry = e; page = z; zeroed = true }))) × ReadableUpTo rules told (k + 1) es)
-      (sym bad.zeros)
-      (found.next-page may es k e at (reading_of rules told) Zeroed far refl (valid_unknown told zero_page (zero_page_valid_as rules.checksums e.block))
-      (finds told Damaged Zeroed (λ f is. zeros-found rules.zero f (on refl) is) bad.told_bad))
+  next-page None page mark far allowed given =
+      found.next-page may es k e at (reading_of rules None) (FoundPage mark page) far refl
+      (is-marked rules e.relation e.block mark page allowed given) tt
+  next-page (Some t) page mark far allowed given =
+      found.next-page may es k e at (reading_of rules (Some t)) (FoundPage mark page) far refl tt
+      (is-found rules e.relation e.block t mark page allowed given)
 
-  pub next-invalid : (told : Option Told) → ReadableUpTo rules told k es → rules.zero ≡ false
-      → IfSome told (λ t. found_at rules.checksums t e.relation e.block ≡ Damaged)
+  pub next-invalid : (told : Option Told) → ReadableUpTo rules told k es
+      → rules.damaged ≡ damaged_pages.Refuse
+      → HasBadPage told rules.checksums e.relation e.block
       → IsNext (reading_of rules told) may es k (Stop (Invalid e.block))
-  next-invalid told far off bad =
-      found.next-invalid may es k e at (reading_of rules told) far
-      (finds told Damaged Damaged (λ f is. damage-found rules.zero f off is) bad)
+  next-invalid None far rule bad =
+      found.next-invalid may es k e at (reading_of rules None) far tt
+  next-invalid (Some t) far rule bad =
+      found.next-invalid may es k e at (reading_of rules (Some t)) far
+      (bad-found rules e.relation e.block t damaged_pages.Refuse rule bad)
 
   pub next-past-end : (told : Option Told) → ReadableUpTo rules told k es
-      → IfSome told (λ t. found_at rules.checksums t e.relation e.block ≡ Absent)
+      → IfSome told (λ t. relation_block_count t e.relation ≤ e.block)
       → IsNext (reading_of rules told) may es k (Stop (PastEnd e.block))
-  next-past-end told far past =
-      found.next-past-end may es k e at (reading_of rules told) far
-      (finds told Absent Absent (absence-found rules.zero) past)
+  next-past-end None far past =
+      found.next-past-end may es k e at (reading_of rules None) far tt
+  next-past-end (Some t) far past =
+      found.next-past-end may es k e at (reading_of rules (Some t)) far
+      (found_at-absent rules t e.relation e.block past)
 
   pub next-unread : (told : Option Told) → may e
       → IsNext (reading_of rules told) may es k (Stop (Unread e.block))

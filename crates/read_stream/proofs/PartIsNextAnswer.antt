@@ -1,20 +1,19 @@
 -- What a record that was taken in has for a block is what may be answered next.
-use Rattle.std.proofs.Common.{◌≡◌, ℕ, ◌+◌, ◌-◌, Bool, true, false, List, ◌∷◌, drop, refl, sym}
-use Rattle.std.proofs.Common.{subst, arith, ◌∙◌}
+use Rattle.std.proofs.Common.{◌≡◌, ℕ, ◌+◌, ◌-◌, ◌≤◌, Bool, List, ◌∷◌, drop, subst, arith}
 use Rattle.std.specs.Prelude.{Some, IfSome, slice_get}
 use Rattle.page_check.specs.declared.world.World.{Ghosts as WorldGhosts}
 use Rattle.page_check.specs.PageBytes.{IsPage}
-use Rattle.page_check.specs.SynchronousAnswer.{Entry, reading_of, found_at, Damaged, Absent}
+use Rattle.page_check.specs.Told.{relation_block_count}
+use Rattle.page_check.specs.SynchronousAnswer.{Entry, reading_of}
 use Rattle.page_check.specs.IsAnswer.{IsNext, Stop as SaidStop}
 use Rattle.aio_word.specs.declared.Class.{Class}
 use Rattle.aio_word.specs.declared.Class.TheVariants.{Failed}
 use Rattle.aio_word.specs.declared.Kind.TheVariants as kind
 use Rattle.aio_word.specs.declared.Known.{Known}
 use Rattle.aio_word.specs.Events.{make_mark}
-use Rattle.read_callbacks.specs.GoodPages.{IsGivenAs}
-use Rattle.aio_callback.specs.StreamOutcomes.{stream_ids}
+use Rattle.read_callbacks.specs.GoodPages.{IsGivenAs, HasBadPage}
 use Rattle.aio_callback.specs.Finishes.{record_reference}
-use Rattle.aio_callback.specs.ReadIoView.{ReadIoView, record_page, record_zeroed}
+use Rattle.aio_callback.specs.ReadIoView.{ReadIoView, record_page, record_mark}
 use Rattle.read_stream.specs.declared.parts.Part.TheVariants as part
 use Rattle.read_stream.specs.declared.parts.Stop.{Stop}
 use Rattle.read_stream.specs.declared.parts.Stop.TheVariants as stop
@@ -29,13 +28,6 @@ use Rattle.read_stream.specs.ActorProgress.{MarkedSince}
 use Rattle.read_stream.proofs.ListPositions.{here-at, mapped-at}
 use Rattle.read_stream.proofs.NextAnswerCases.{ReadableUpTo, next-page, next-invalid, next-past-end}
 use Rattle.read_stream.proofs.NextAnswerCases.{next-unread}
-
--- the callbacks of a stream say whether damaged pages are zeroed
-pub ids-apart : (zero one : Bool) → stream_ids zero ≡ stream_ids one → zero ≡ one
-ids-apart false false e = refl
-ids-apart true true e = refl
-ids-apart false true e = absurd (cc)
-ids-apart true false e = absurd (cc)
 
 -- a record of a failed read says so
 pub failed_read : {W : Type 0} (c : Scope W) (world : WorldGhosts W) (p : Known)
@@ -64,28 +56,28 @@ module _ {W P : Type 0} (c : Scope W) (world : WorldGhosts W) (list : List (ℕ 
   at = mapped-at (stream_entry c.relation) list k (b, info) (here-at list k (b, info) rest here)
 
   given-page : IsValidPart world.told io b part.Page → IsGivenAs world.told c.rules.checksums c.relation b
-      (record_page io (b - io.first)) (record_zeroed io (b - io.first))
+      (record_page io (b - io.first)) (record_mark io (b - io.first))
   given-page is =
       let given = (taken.fits.ended taken.has_ended).good (b - io.first) is.0 in
       let (low, below) = has in
       let same : io.first + (b - io.first) ≡ b = omega arith in
       subst (λ (s : Bool). IsGivenAs world.told s c.relation b (record_page io (b - io.first))
-      (record_zeroed io (b - io.first))) taken.is_stream_record.checksums
+      (record_mark io (b - io.first))) taken.is_stream_record.checksums
       (subst (λ (r : ℕ). IsGivenAs world.told io.checksums r b (record_page io (b - io.first))
-      (record_zeroed io (b - io.first))) taken.is_stream_record.relation
+      (record_mark io (b - io.first))) taken.is_stream_record.relation
       (subst (λ (n : ℕ). IsGivenAs world.told io.checksums io.relation n
-      (record_page io (b - io.first)) (record_zeroed io (b - io.first))) same given))
+      (record_page io (b - io.first)) (record_mark io (b - io.first))) same given))
 
   -- a page of the record
   pub page_is_next : IsValidPart world.told io b part.Page
       → (IsPage (record_page io (b - io.first)) → IsNext (reading_of c.rules world.told)
       (MayBeUnread c.was.value p) (stream_entries c.relation list)
       k (page_answer c.relation b info (record_page io (b - io.first))
-      (record_zeroed io (b - io.first))))
+      (record_mark io (b - io.first))))
       × ReadableUpTo c.rules world.told (k + 1) (stream_entries c.relation list)
   page_is_next is = next-page c.rules (MayBeUnread c.was.value p) (stream_entries c.relation list) k
-      e at world.told (record_page io (b - io.first)) (record_zeroed io (b - io.first)) far
-      (λ z. ids-apart c.rules.zero true (sym taken.is_stream_record.ids ∙ is.1 z)) (given-page is)
+      e at world.told (record_page io (b - io.first)) (record_mark io (b - io.first)) far
+      (is.1 c.rules.damaged taken.is_stream_record.ids) (given-page is)
 
   maybe-unread : io.first ≡ b → io.label.ended ≡ Failed → MayBeUnread c.was.value p e
   maybe-unread first failed = (io, failed_read c world p io taken b first failed)
@@ -96,18 +88,15 @@ module _ {W P : Type 0} (c : Scope W) (world : WorldGhosts W) (list : List (ℕ 
       (stream_entries c.relation list) k (SaidStop (stop_ending why b))
   stop_is_next stop.Invalid is =
       next-invalid c.rules (MayBeUnread c.was.value p) (stream_entries c.relation list) k e at
-      world.told far (ids-apart c.rules.zero false (sym taken.is_stream_record.ids ∙ is.0))
-      (subst (λ (s : Bool). IfSome world.told (λ t. found_at s t c.relation b ≡ Damaged))
-      taken.is_stream_record.checksums
-      (subst (λ (r : ℕ). IfSome world.told (λ t. found_at io.checksums t r b ≡ Damaged))
-      taken.is_stream_record.relation is.1))
+      world.told far (is.0 c.rules.damaged taken.is_stream_record.ids)
+      (subst (λ (s : Bool). HasBadPage world.told s c.relation b) taken.is_stream_record.checksums
+      (subst (λ (r : ℕ). HasBadPage world.told io.checksums r b) taken.is_stream_record.relation
+      is.1))
   stop_is_next stop.Unread is =
       next-unread c.rules (MayBeUnread c.was.value p) (stream_entries c.relation list) k e at
       world.told (maybe-unread is.0 is.1)
   stop_is_next stop.PastEnd is =
       next-past-end c.rules (MayBeUnread c.was.value p) (stream_entries c.relation list) k e at
       world.told far
-      (subst (λ (s : Bool). IfSome world.told (λ t. found_at s t c.relation b ≡ Absent))
-      taken.is_stream_record.checksums
-      (subst (λ (r : ℕ). IfSome world.told (λ t. found_at io.checksums t r b ≡ Absent))
-      taken.is_stream_record.relation is))
+      (subst (λ (r : ℕ). IfSome world.told (λ t. relation_block_count t r ≤ b))
+      taken.is_stream_record.relation is)

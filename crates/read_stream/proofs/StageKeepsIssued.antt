@@ -251,7 +251,7 @@ module _ {W : Type 0} (c : Scope W) (world : WorldGhosts W) where
 
 -- a record that was aimed, and then bound
 pub aimed-as : {W : Type 0} (c : Scope W) (io x y : ReadIoView) (first count : ℕ)
-    → x ≡ with_aim c.relation first count c.rules.checksums (stream_ids c.rules.zero) io → length io.pages ≡ c.combine
+    → x ≡ with_aim c.relation first count c.rules.checksums (stream_ids c.rules.damaged) io → length io.pages ≡ c.combine
     → record_aim y ≡ record_aim x → IsStreamRecord c y × (y.first ≡ first) × (y.count ≡ count)
 aimed-as c io x y first count is room same =
     let r : ReadsAs y x = reads-as y x same in (

@@ -1,10 +1,11 @@
 -- What a stream has at hand, and what it answers of it.
 use Rattle.std.specs.Prelude.{Bool}
-use Rattle.std.specs.Prelude.{◌≡◌, ℕ, ◌-◌, List, [], ◌∷◌, false, Option, Some, None, slice_get, ⊤}
+use Rattle.std.specs.Prelude.{◌≡◌, ℕ, ◌-◌, List, [], ◌∷◌, Option, Some, None, slice_get, ⊤}
 use Rattle.page_check.specs.Told.{Told}
+use Rattle.page_check.specs.declared.rules.PageMark.TheVariants.{Valid}
 use Rattle.page_check.specs.SynchronousAnswer.{Ending, End, Invalid, PastEnd, Unread}
 use Rattle.page_check.specs.IsAnswer.{Next as Said, Stop as SaidStop}
-use Rattle.aio_callback.specs.ReadIoView.{record_page, record_zeroed}
+use Rattle.aio_callback.specs.ReadIoView.{record_page, record_mark}
 use Rattle.read_callbacks.specs.GoodPages.{IsGood}
 use Rattle.buf_pool.specs.LookupAnswers.{pinned_page}
 use Rattle.read_stream.specs.declared.at_hand.AtHand.{AtHand}
@@ -90,10 +91,10 @@ module _ {W P : Type 0} where
   abbrev pub answer_with : ℕ → AtHand W → Option (QueuedBlock P) → Option EndedRead → Said P
   answer_with relation at_hand.Nothing asked oldest = SaidStop End
   answer_with relation (at_hand.Pinned pin) (Some a) oldest =
-      page_answer relation a.block a.per_buffer_data (pinned_page pin) false
+      page_answer relation a.block a.per_buffer_data (pinned_page pin) Valid
   answer_with relation (at_hand.Pinned pin) None oldest = SaidStop End
   answer_with relation at_hand.Lent (Some a) (Some e) = page_answer relation a.block
-      a.per_buffer_data (record_page e.io e.given) (record_zeroed e.io e.given)
+      a.per_buffer_data (record_page e.io e.given) (record_mark e.io e.given)
   answer_with relation at_hand.Lent (Some a) None = SaidStop End
   answer_with relation at_hand.Lent None oldest = SaidStop End
   answer_with relation (at_hand.Stopped block why) asked oldest = SaidStop (stop_ending why block)

@@ -69,7 +69,7 @@ module _ {W : Type 0} (c : Scope W) where
 
   -- the record is aimed at some blocks of the relation, with a stream's callbacks
   pub record IsStreamRecord (r : ReadIoView) : Type 0 where
-    pub ids : r.ids ≡ stream_ids c.rules.zero
+    pub ids : r.ids ≡ stream_ids c.rules.damaged
     pub checksums : r.checksums ≡ c.rules.checksums
     pub relation : r.relation ≡ c.relation
     pub room : length r.pages ≡ c.combine

@@ -1,9 +1,9 @@
 -- A stream as its callers see it, and what a call of it answers and changes.
-use Rattle.std.specs.Prelude.{◌≡◌, ℕ, ◌+◌, ◌<◌, List, [], true, Option, Some, None, length}
+use Rattle.std.specs.Prelude.{◌≡◌, ℕ, ◌+◌, ◌<◌, List, [], Option, Some, None, length}
 use Rattle.page_check.specs.Told.{Told}
-use Rattle.page_check.specs.SynchronousAnswer.{Ending, reading_of}
-use Rattle.page_check.specs.Verdict.{IsValid}
-use Rattle.page_check.specs.IsAnswer.{IfPage, IsNext, Next as Said, Page as SaidPage}
+use Rattle.page_check.specs.SynchronousAnswer.{Ending, AllowsMark, IsValidUnlessDamaged}
+use Rattle.page_check.specs.SynchronousAnswer.{reading_of}
+use Rattle.page_check.specs.IsAnswer.{IfGiven, IfPage, IsNext, Next as Said, Page as SaidPage}
 use Rattle.page_check.specs.IsAnswer.{Stop as SaidStop}
 use Rattle.aio_word.specs.Tokens.{AppendsMarks, failed_result_count}
 use Rattle.aio_handle.specs.ContractViews.{ActorView, IsSameActor}
@@ -13,7 +13,6 @@ use Rattle.aio_callback.specs.ReadIoView.{ReadIoView}
 use Rattle.read_stream.specs.declared.desk.Settings.{Settings}
 use Rattle.stream_answer.specs.declared.answer.Next.{Next}
 use Rattle.stream_answer.specs.StreamAnswers.{stream_entries, synchronous_answer, pages_given}
-use Rattle.stream_answer.specs.StreamAnswers.{IfZeroed}
 use Rattle.read_stream.specs.FailedReads.{MayBeUnread}
 use Rattle.read_stream.specs.ActorProgress.{ActorAdvanced}
 
@@ -75,15 +74,15 @@ IsActorAsLeft left now = (now.table ≡ left.table) × AppendsMarks left.known n
 pub record HasNoFailedRead (was now : ActorView) : Type 0 where
   pub failed_results : failed_result_count now.known.marks ≡ failed_result_count was.known.marks
 
--- what is answered is what may be answered behind the pages that were given: the valid page of the
--- next block, or zeros in its place where the settings say so, or an ending; Unread at a block where
--- a read of the stream has failed
+-- what is answered is what may be answered behind the pages that were given: the page of the next
+-- block, which is valid or marked as the settings allow, or an ending; Unread at a block where a
+-- read of the stream has failed
 pub record IsStreamAnswer {P : Type 0} (told : Option Told) (s : StreamView P) (now : ActorView)
     (answer : Said P) : Type 0 where
   pub next : IsNext (reading_of s.settings.rules told) (MayBeUnread s.actor_was now.known)
       (stream_entries s.relation s.blocks) s.given answer
-  pub valid : IfPage answer IsValid
-  pub zeroed : IfZeroed answer (s.settings.rules.zero ≡ true)
+  pub valid : IfGiven answer (λ given. IsValidUnlessDamaged given.mark given.page)
+  pub marked : IfGiven answer (λ given. AllowsMark s.settings.rules.damaged given.mark)
   pub within : IfPage answer (λ _. s.given < length s.blocks)
 
 -- it is what synchronous reads answer there

@@ -33,7 +33,7 @@ pub struct Settings {
     pub batch: bool,
     /// The segment size in blocks (`RELSEG_SIZE`), at least 1: no read crosses a multiple of it.
     pub segment: u32,
-    /// Whether checksums are verified, and damaged pages given as zeros.
+    /// Whether checksums are verified, and what becomes of damaged pages.
     pub rules: PageRules,
 }
 

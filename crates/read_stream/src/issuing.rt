@@ -29,7 +29,7 @@ use aio_handle::{Execute, Staged};
 use aio_word::WaitRef;
 use buf_pool::Pool;
 use method_sync::SyncMethod;
-use page_check::{PageRules, World};
+use page_check::{DamagedPages, PageRules, World};
 use read_plan::Run;
 use std::sync::Wait;
 
@@ -42,15 +42,15 @@ const NO_REFERENCE: WaitRef = WaitRef {
     generation: 0,
 };
 
-/// The callbacks of a stream's reads, with damaged pages zeroed or not. They run from the last to
+/// The callbacks of a stream's reads, by what becomes of damaged pages. They run from the last to
 /// the first.
-fn callbacks(zero: bool) -> [CallbackId; 3]
-    ensures { result ≡ stream_ids zero }
+fn callbacks(damaged: DamagedPages) -> [CallbackId; 3]
+    ensures { result ≡ stream_ids damaged }
 {
-    let check = if zero {
-        CallbackId::ZeroBuffer
-    } else {
-        CallbackId::Buffer
+    let check = match damaged {
+        DamagedPages::Refuse => CallbackId::Buffer,
+        DamagedPages::Zero => CallbackId::ZeroBuffer,
+        DamagedPages::Give => CallbackId::MarkBuffer,
     };
     [CallbackId::Count, check, CallbackId::File]
 }
@@ -78,9 +78,9 @@ fn aim_record(mut io: ReadIo, relation: u32, run: Run, rules: PageRules) -> Read
     requires room { run.count ≤ length io.pages }
     requires blocks_in_range { run.first + run.count ≤ 2 ^ 32 }
     ensures { result ≡ with_aim relation run.first run.count rules.checksums
-        (stream_ids rules.zero) io }
+        (stream_ids rules.damaged) io }
 {
-    let ids = callbacks(rules.zero);
+    let ids = callbacks(rules.damaged);
     match io.aim(relation, run.first, run.count, rules.checksums, &ids) {
         Ok(()) => io,
         Err(_) => unreachable!(),

@@ -11,11 +11,11 @@
 //! They speak of a stream as `stream_view` shows it: what it reads, how far it has come, and its
 //! actor. The answer of each call of [`ReadStream::next`] is what one thread's synchronous reads of
 //! the source's list give next (`IsNext` of page_check, over the list as it was at the opening),
-//! with damaged pages given as zeros where [`Settings::zero`] says so. Or it is `Unread` at the
-//! block where a read of this stream has failed, whose record the stream keeps and whose mark stands
-//! in the actor's list. An ending is given again by each later call. After [`ReadStream::close`] no
-//! token of the stream is out and its desk is free. When a stream looks ahead, what it combines and
-//! which reads it makes by its own thread is no part of any contract.
+//! read by the rules of its [`Settings`]. Or it is `Unread` at the block where a read of this
+//! stream has failed, whose record the stream keeps and whose mark stands in the actor's list. An
+//! ending is given again by each later call. After [`ReadStream::close`] no token of the stream is
+//! out and its desk is free. When a stream looks ahead, what it combines and which reads it makes
+//! by its own thread is no part of any contract.
 #![tactic(auto)]
 
 mod acquiring;

@@ -1,5 +1,6 @@
 //! What a record that was taken in has for one of its blocks.
-ghost use Rattle.std.specs.Prelude.{◌≡◌, ◌≢◌, ◌<◌, ◌-◌, Bool, IfSome, IfNone};
+ghost use Rattle.std.specs.Prelude.{◌≡◌, ◌≢◌, ◌<◌, ◌-◌, IfSome, IfNone};
+ghost use Rattle.page_check.specs.declared.rules.DamagedPages.{DamagedPages};
 ghost use Rattle.aio_word.specs.declared.Class.TheVariants.{Unended};
 ghost use Rattle.aio_callback.specs.StreamOutcomes.{stream_ids};
 ghost use Rattle.aio_callback.specs.ReadIoView.{ReadFits};
@@ -34,7 +35,7 @@ pub enum Part {
 pub(crate) fn part_of<W: World>(io: &ReadIo, block: u32) -> Option<Part>
     requires reads_fit { ReadFits W.told W.relations io.now }
     requires has_ended { io.now.label.ended ≢ Unended }
-    requires ids { (zero : Bool) × (io.now.ids ≡ stream_ids zero) }
+    requires ids { (damaged : DamagedPages) × (io.now.ids ≡ stream_ids damaged) }
     requires covers_block { CoversBlock io.now block }
     ensures part { IfSome result (λ part. IsValidPart W.told io.now block part) }
     ensures rest { IfNone result (io.now.first < block) }

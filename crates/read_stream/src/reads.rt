@@ -1,7 +1,8 @@
 //! The I/Os of a stream.
 ghost use Rattle.std.specs.Prelude.{◌≡◌, ◌<◌, ◌≤◌, ◌+◌, ◌-◌, ◌↔◌, ◌∷◌, length, slice_get, Some};
-ghost use Rattle.std.specs.Prelude.{◌≢◌, ◌^◌, Bool, IfOk, IfSome, IfNone, IsTrue};
+ghost use Rattle.std.specs.Prelude.{◌≢◌, ◌^◌, IfOk, IfSome, IfNone, IsTrue};
 ghost use Rattle.circular_buffer.specs.Buffer.{buffer};
+ghost use Rattle.page_check.specs.declared.rules.DamagedPages.{DamagedPages};
 ghost use Rattle.aio_word.specs.declared.Class.TheVariants.{Unended};
 ghost use Rattle.aio_callback.specs.ReadIoView.{ReadFits};
 ghost use Rattle.aio_callback.specs.StreamOutcomes.{stream_ids};
@@ -151,8 +152,8 @@ impl<W: World> Reads<W> {
         requires oldest { HasEndedRead self.now }
         requires left { (oldest : EndedRead) → slice_get self.now.ended.items 0 ≡ Some oldest
             → (oldest.given < oldest.io.count) × ReadFits W.told W.relations oldest.io
-            × (oldest.io.label.ended ≢ Unended) × (zero : Bool)
-            × (oldest.io.ids ≡ stream_ids zero) }
+            × (oldest.io.label.ended ≢ Unended) × (damaged : DamagedPages)
+            × (oldest.io.ids ≡ stream_ids damaged) }
         ensures part { IfSome result (IsPartOfOldest W.told self.now) }
         ensures rest { IfNone result ((oldest : EndedRead)
             → slice_get self.now.ended.items 0 ≡ Some oldest → 0 < oldest.given) }

@@ -1,5 +1,5 @@
 //! A read stream.
-ghost use Rattle.std.specs.Prelude.{◌≡◌, ◌<◌, ◌≤◌, ◌+◌, ℕ, [], length, IfSome, true};
+ghost use Rattle.std.specs.Prelude.{◌≡◌, ◌<◌, ◌≤◌, ◌+◌, ℕ, [], length, IfSome};
 ghost use Rattle.std.specs.declared.snapshot.Snapshot.{Snapshot};
 ghost use Rattle.page_check.specs.PageBytes.{IsPage};
 ghost use Rattle.page_check.specs.IsAnswer.{IfPage, Stop as SaidStop};
@@ -7,7 +7,7 @@ ghost use Rattle.aio_word.specs.Events.{lives_ended};
 ghost use Rattle.aio_handle.specs.EndStates.{HasNoOwnerTokens};
 ghost use Rattle.aio_handle.specs.FreeHandles.{IsRoom};
 ghost use Rattle.aio_handle.specs.ContractViews.{ActorView, IsActorOf};
-ghost use Rattle.stream_answer.specs.StreamAnswers.{synchronous_answer, IfZeroed};
+ghost use Rattle.stream_answer.specs.StreamAnswers.{synchronous_answer};
 ghost use Rattle.read_stream.specs.StreamViews.{answer_of, new_stream, IsStreamAnswer};
 ghost use Rattle.read_stream.specs.StreamViews.{HasNoFailedRead, IsSynchronousAnswer, CallAdvanced};
 ghost use Rattle.read_stream.specs.Desks.{IsFreeDesk, desk_settings};
@@ -25,8 +25,8 @@ use aio_callback::ReadIo;
 use aio_handle::{Actor, Execute, Table};
 use block_source::BlockSource;
 use buf_pool::Pool;
-use page_check::World;
 use page_check::laws::a_page_has_8192_bytes;
+use page_check::{PageMark, World};
 use std::snapshot::Snapshot;
 use std::sync::Wait;
 use stream_answer::Next;
@@ -95,8 +95,8 @@ impl<'d, 'p, W: World, S: BlockSource<P> + Drop, P: Copy> ReadStream<'d, 'p, W, 
 
     /// The page of the next block, lent with the source's data until the next call; or how the
     /// stream has ended, which each later call says again. `Unread` comes where a read of this
-    /// stream has failed, `Invalid` where a page is damaged and the settings do not give zeros for
-    /// it, `PastEnd` where the relation has no such block. It may wait.
+    /// stream has failed, `Invalid` where a page is damaged and the settings refuse such pages,
+    /// `PastEnd` where the relation has no such block. It may wait.
     ///
     /// Between two calls the actor makes no I/O of its own and executes none. It may look.
     ///
@@ -156,8 +156,6 @@ impl<'d, 'p, W: World, S: BlockSource<P> + Drop, P: Copy> ReadStream<'d, 'p, W, 
         ensures answer { synchronous_answer self.now.scope.relation result
             ≡ answer_at_hand self.now }
         ensures page { IfPage (synchronous_answer self.now.scope.relation result) IsPage }
-        ensures zeroed { IfZeroed (synchronous_answer self.now.scope.relation result)
-            (self.now.scope.rules.zero ≡ true) }
     {
         match &self.at_hand {
             AtHand::Pinned(pin) => {
@@ -171,10 +169,11 @@ impl<'d, 'p, W: World, S: BlockSource<P> + Drop, P: Copy> ReadStream<'d, 'p, W, 
                 let oldest = self.desk.reads.oldest();
                 let page = oldest.io.page(oldest.given);
                 a_page_has_8192_bytes(page);
-                if oldest.io.zeroed(oldest.given) {
-                    Next::Zeroed(page, asked.block, &asked.per_buffer_data)
-                } else {
-                    Next::Page(page, asked.block, &asked.per_buffer_data)
+                let data = &asked.per_buffer_data;
+                match oldest.io.mark(oldest.given) {
+                    PageMark::Valid => Next::Page(page, asked.block, data),
+                    PageMark::Zeroed => Next::Zeroed(page, asked.block, data),
+                    PageMark::Damaged => Next::Damaged(page, asked.block, data),
                 }
             }
             AtHand::Stopped(block, Stop::Invalid) => Next::Invalid(*block),

@@ -1,4 +1,4 @@
-//! What a chain makes of a read's answer where no page is zeroed.
+//! What a chain makes of a read's answer where no page is marked.
 use crate::reads::{Case, case_of, check_case, result_of};
 use aio_callback::CallbackId::{Buffer, Count, File};
 use aio_callback::{CallbackId, Raw};

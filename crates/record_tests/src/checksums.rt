@@ -1,11 +1,14 @@
 //! Reads whose pages have checksums. The numbers are those of a server for these pages.
+ghost use Rattle.std.specs.Prelude.{◌<◌};
 ghost use Rattle.record_tests.specs.PendingReads.{IsPendingRead};
 
+use crate::disk::callbacks;
+use crate::marked_pages::check_page;
 use crate::reads::{Ending, aimed, check_calls, outcome_of, place, result_of};
-use aio_callback::CallbackId::{Buffer, Count, File, ZeroBuffer};
 use aio_callback::{Raw, ReadIo};
 use aio_result::{AioResult, Status};
 use aio_word::Class;
+use page_check::{DamagedPages, Page, PageMark};
 use page_fixtures::checksums::with_checksum;
 use page_fixtures::pages::{EMPTY, FLAGGED, Parts, page_of};
 use std::process::Abort;
@@ -22,11 +25,11 @@ struct Row {
     flagged: Option<usize>,
     answer: Raw,
     checksums: bool,
-    zero: bool,
-    /// The result, how many pages are good, and which of them were zeroed.
+    damaged: DamagedPages,
+    /// The result, how many pages are good, and which of them are marked.
     result: AioResult,
     good: u8,
-    zeroed: &'static [usize],
+    marked: &'static [usize],
 }
 
 /// The checksums of empty pages as blocks 4 to 7.
@@ -47,66 +50,76 @@ fn whole() -> Row {
         flagged: None,
         answer: Raw::Read(4),
         checksums: true,
-        zero: false,
+        damaged: DamagedPages::Refuse,
         result: result_of(0, Status::Good, 0, 4),
         good: 4,
-        zeroed: &[],
+        marked: &[],
+    }
+}
+
+/// Pages with these checksums.
+fn with_sums(name: &'static str, sums: [u16; 4]) -> Row {
+    Row {
+        name,
+        sums,
+        ..whole()
     }
 }
 
 /// The page at `place` is invalid.
 fn invalid(name: &'static str, sums: [u16; 4], place: u8) -> Row {
     Row {
-        name,
-        sums,
         result: result_of(2, Status::Error, u32::from(place), i32::from(place)),
         good: place,
-        ..whole()
+        ..with_sums(name, sums)
     }
 }
 
-/// Of `good` pages so many are zeroed.
-fn warned(name: &'static str, sums: [u16; 4], good: u8, zeroed: &'static [usize]) -> Row {
+/// Of `good` pages these are zeroed, or given as they are.
+fn warned(row: Row, damaged: DamagedPages, good: u8, marked: &'static [usize]) -> Row {
+    let id = if damaged == DamagedPages::Zero { 4 } else { 5 };
+    let count = marked.len().min(4) as u32;
     Row {
-        name,
-        sums,
-        zero: true,
+        damaged,
         answer: Raw::Read(u32::from(good)),
-        result: result_of(
-            4,
-            Status::Warning,
-            zeroed.len().min(4) as u32,
-            i32::from(good),
-        ),
+        result: result_of(id, Status::Warning, count, i32::from(good)),
         good,
-        zeroed,
-        ..whole()
+        marked,
+        ..row
     }
 }
 
 /// Fewer pages than asked for come.
 fn short(name: &'static str, first: u32, sums: [u16; 4], good: u8) -> Row {
     Row {
-        name,
         first,
-        sums,
         answer: Raw::Read(u32::from(good)),
         result: result_of(1, Status::Partial, 0, i32::from(good)),
         good,
-        ..whole()
+        ..with_sums(name, sums)
     }
 }
 
 /// No page comes.
 fn without_pages(name: &'static str, answer: Raw, error: u32) -> Row {
     Row {
-        name,
-        sums: [0; 4],
         answer,
         result: result_of(1, Status::Error, error, 0),
         good: 0,
-        ..whole()
+        ..with_sums(name, [0; 4])
     }
+}
+
+/// The page of the row at a place.
+fn page_at(row: &Row, index: usize) -> Page
+    requires { index < 4 }
+{
+    let parts: Parts<'_> = if row.flagged == Some(index) {
+        FLAGGED
+    } else {
+        EMPTY
+    };
+    with_checksum(page_of(parts), row.sums[index])
 }
 
 /// The record gets the pages of the row.
@@ -115,13 +128,7 @@ fn put_pages(io: &mut ReadIo, row: &Row)
     ensures { IsPendingRead 4 io.new }
 {
     for index in 0..4usize {
-        let parts: Parts<'_> = if row.flagged == Some(index) {
-            FLAGGED
-        } else {
-            EMPTY
-        };
-        let page = with_checksum(page_of(parts), row.sums[index]);
-        place(io, index, &page);
+        place(io, index, &page_at(row, index));
     }
 }
 
@@ -130,22 +137,37 @@ fn blocks_of(row: &Row) -> [(u32, bool); 4] {
     let mut blocks = [(0, false); 4];
     let mut block = row.first;
     for (index, told) in blocks.iter_mut().enumerate() {
-        let is_good = index < usize::from(row.good) && !row.zeroed.contains(&index);
+        let is_good = index < usize::from(row.good) && !row.marked.contains(&index);
         *told = (block, is_good);
         block = block.wrapping_add(1);
     }
     blocks
 }
 
+/// The good page at a place, and its mark.
+fn wanted_page(row: &Row, index: usize) -> (PageMark, Page)
+    requires { index < 4 }
+{
+    let page = page_at(row, index);
+    if !row.marked.contains(&index) {
+        return (PageMark::Valid, page);
+    }
+    match row.damaged {
+        DamagedPages::Zero => (PageMark::Zeroed, Page::zeros()),
+        _ => (PageMark::Damaged, page),
+    }
+}
+
 fn check_row<R: Abort + AllocGlobal + Wait>(rt: &R, row: &Row) -> Result<(), Fail> {
-    let Row { name, first, .. } = *row;
+    let first = row.first;
+    let name = format!(in rt.alloc(); "{}, {:?}", row.name, row.damaged)?;
+    let name = name.as_str();
     assert!(rt;
         matches!(row.answer, Raw::Failed | Raw::Read(0..=4)),
         "{name}"
     );
     assert!(rt; first < 0x8000_0000, "{name}");
-    let buffer = if row.zero { ZeroBuffer } else { Buffer };
-    let mut io = aimed(rt.alloc(), &[Count, buffer, File], first, row.checksums)?;
+    let mut io = aimed(rt.alloc(), &callbacks(row.damaged), first, row.checksums)?;
     put_pages(&mut io, row);
     let ended = outcome_of(rt, rt.alloc(), io, row.answer)?;
     let wanted = Ending {
@@ -159,9 +181,12 @@ fn check_row<R: Abort + AllocGlobal + Wait>(rt: &R, row: &Row) -> Result<(), Fai
     };
     assert_eq!(rt; ended.ending, wanted, "{name}");
     check_calls(rt, &ended, row.checksums, blocks_of(row), name);
-    for (index, marks) in ended.zeroed.iter().enumerate() {
-        let zeroed = row.zeroed.contains(&index);
-        assert_eq!(rt; *marks, (zeroed, zeroed), "{name}, page {index}");
+    assert_eq!(rt; ended.pages.len(), usize::from(row.good), "{name}");
+    for index in 0..4usize {
+        if let Some(page) = ended.pages.get(index) {
+            let (mark, wanted) = wanted_page(row, index);
+            check_page(rt, page, mark, &wanted, name);
+        }
     }
     Ok(())
 }
@@ -198,28 +223,28 @@ fn a_page_is_checked_as_its_block(rt: HostRuntime) -> Result<(), Fail> {
 }
 
 #[test]
-fn a_page_with_another_checksum_is_zeroed(rt: HostRuntime) -> Result<(), Fail> {
-    let by_header = Row {
-        name: "not by its header",
-        sums: TWICE_COPIED,
-        checksums: false,
-        zero: true,
-        ..whole()
-    };
-    let with_its_checksum = Row {
-        name: "each page has its checksum, with zeroing",
-        zero: true,
-        ..whole()
-    };
-    for row in [
-        by_header,
-        with_its_checksum,
-        warned("the page of the block before is zeroed", COPIED, 4, &[2]),
-        warned("two pages are zeroed", TWICE_COPIED, 4, &[1, 2]),
-        warned("all pages are zeroed", [1; 4], 4, &[0, 1, 2, 3]),
-        warned("a page of a short read is zeroed", TWICE_COPIED, 2, &[1]),
-    ] {
-        check_row(&rt, &row)?;
+fn a_page_with_another_checksum_is_zeroed_or_marked(rt: HostRuntime) -> Result<(), Fail> {
+    for damaged in [DamagedPages::Zero, DamagedPages::Give] {
+        let by_header = Row {
+            checksums: false,
+            damaged,
+            ..with_sums("another checksum, not by its header", TWICE_COPIED)
+        };
+        let with_its_checksum = Row { damaged, ..whole() };
+        let copied = with_sums("the page of the block before", COPIED);
+        let twice_copied = with_sums("two pages", TWICE_COPIED);
+        let all = with_sums("all pages", [1; 4]);
+        let of_short = with_sums("a page of a short read", TWICE_COPIED);
+        for row in [
+            by_header,
+            with_its_checksum,
+            warned(copied, damaged, 4, &[2]),
+            warned(twice_copied, damaged, 4, &[1, 2]),
+            warned(all, damaged, 4, &[0, 1, 2, 3]),
+            warned(of_short, damaged, 2, &[1]),
+        ] {
+            check_row(&rt, &row)?;
+        }
     }
     Ok(())
 }
@@ -246,20 +271,16 @@ fn pages_of_short_and_failed_reads(rt: HostRuntime) -> Result<(), Fail> {
 // The header counts too: block 5 with flag 8 has the checksum 46023.
 #[test]
 fn a_page_with_its_checksum_has_a_sane_header(rt: HostRuntime) -> Result<(), Fail> {
-    let sums = [25948, 46023, 25950, 25949];
     for checksums in [false, true] {
         let bad = Row {
             flagged: Some(1),
             checksums,
-            ..invalid("an unknown flag", sums, 1)
-        };
-        let zeroed = Row {
-            flagged: Some(1),
-            checksums,
-            ..warned("an unknown flag, zeroed", sums, 4, &[1])
+            ..invalid("an unknown flag", [25948, 46023, 25950, 25949], 1)
         };
         check_row(&rt, &bad)?;
-        check_row(&rt, &zeroed)?;
+        for damaged in [DamagedPages::Zero, DamagedPages::Give] {
+            check_row(&rt, &warned(bad, damaged, 4, &[1]))?;
+        }
     }
     Ok(())
 }

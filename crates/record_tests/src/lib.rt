@@ -13,6 +13,8 @@ mod counts;
 #[cfg(test)]
 mod disk;
 #[cfg(test)]
-mod reads;
+mod marked_pages;
 #[cfg(test)]
-mod zeroing;
+mod marks;
+#[cfg(test)]
+mod reads;

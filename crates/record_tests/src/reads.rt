@@ -4,12 +4,14 @@ ghost use Rattle.aio_word.specs.declared.Class.TheVariants.{Unended};
 ghost use Rattle.read_callbacks.specs.Chain.{IsWithin};
 ghost use Rattle.record_tests.specs.PendingReads.{IsPendingRead};
 
+use crate::marked_pages::{Marked, MarkedPage, check_pages, good_pages};
 use aio_callback::{CallbackId, Places, Raw, ReadIo};
 use aio_handle::Record;
 use aio_result::{AioResult, Status};
 use aio_word::{Class, WaitRef};
 use page_check::{Page, World};
-use std::alloc::{AllocError, Global};
+use page_fixtures::pages::{DAMAGED, page_of};
+use std::alloc::Global;
 use std::marker::Brand;
 use std::process::Abort;
 use std::sync::Wait;
@@ -84,14 +86,6 @@ pub(crate) fn place(io: &mut ReadIo, index: usize, page: &Page)
     pages[index].copy_from(page);
 }
 
-/// A page that is neither zero nor has a sane header.
-fn bad_page(alloc: Global) -> Result<Page, AllocError> {
-    let mut page = Page::zeroed(alloc)?;
-    let bytes = page.bytes_mut();
-    bytes[8000] = 1;
-    Ok(page)
-}
-
 /// What became of a read.
 #[derive(Clone, Copy, Debug, PartialEq, Eq)]
 pub(crate) struct Ending {
@@ -134,17 +128,12 @@ pub(crate) fn result_of(id: u8, status: Status, error: u32, number: i32) -> AioR
     }
 }
 
-pub(crate) fn is_blank(page: &Page) -> bool {
-    page.bytes().iter().all(|byte| *byte == 0)
-}
-
-/// What became of a read, what the places were told, and for each good page whether it was zeroed
-/// and whether it is all zeros.
+/// What became of a read, what the places were told, and the good pages.
 #[derive(Drop)]
 pub(crate) struct EndOutcome {
     pub(crate) ending: Ending,
     notes: Notes,
-    pub(crate) zeroed: Vec<(bool, bool)>,
+    pub(crate) pages: Vec<MarkedPage>,
 }
 
 /// How the read of this record ends.
@@ -161,14 +150,10 @@ pub(crate) fn outcome_of<T: Wait>(
         calls: Vec::new(alloc),
     };
     let ending = completed::<Brand, Notes, T>(rt, &mut io, answer, &mut notes);
-    let mut zeroed = Vec::new(alloc);
-    for index in 0..io.good() {
-        zeroed.push((io.zeroed(index), is_blank(io.page(index))))?;
-    }
     Ok(EndOutcome {
         ending,
         notes,
-        zeroed,
+        pages: good_pages(alloc, &io)?,
     })
 }
 
@@ -185,7 +170,7 @@ fn end_of<T: Wait>(
 {
     let mut io = aimed(alloc, ids, 10, checksums)?;
     if let Some(index) = case.bad {
-        place(&mut io, index, &bad_page(alloc)?);
+        place(&mut io, index, &page_of(DAMAGED));
     }
     outcome_of(rt, alloc, io, case.answer)
 }
@@ -238,26 +223,13 @@ pub(crate) fn check_calls<R: Abort>(
     }
 }
 
-/// That of this many good pages this one alone, if any, was zeroed, and that all are zeros.
-pub(crate) fn told_zeroed(
-    alloc: Global,
-    good: u32,
-    zeroed: Option<u32>,
-) -> Result<Vec<(bool, bool)>, AllocError> {
-    let mut marks = Vec::new(alloc);
-    for index in 0..good {
-        marks.push((zeroed == Some(index), true))?;
-    }
-    Ok(marks)
-}
-
 // Checks one case, with checksums verified or not: its pages are zeros, which are valid in either
 // way, and one that is bad in either.
 fn check_either<R: Abort + AllocGlobal + Wait>(
     rt: &R,
     ids: &[CallbackId],
     case: Case,
-    zeroed: Option<u32>,
+    marked: Marked,
     checksums: bool,
 ) -> Result<(), Fail> {
     assert!(rt; matches!(case.answer, Raw::Failed | Raw::Read(0..=4)));
@@ -270,24 +242,23 @@ fn check_either<R: Abort + AllocGlobal + Wait>(
     assert_eq!(rt; case.answer.class(4), case.ending.class, "{name}");
     let mut blocks = [(10, false), (11, false), (12, false), (13, false)];
     for (index, place) in blocks.iter_mut().enumerate() {
-        place.1 = index < good as usize && zeroed.map(|page| page as usize) != Some(index);
+        place.1 = index < good as usize && marked.is_none_or(|(page, _)| page != index);
     }
     check_calls(rt, &ended, checksums, blocks, name);
-    let marks = told_zeroed(rt.alloc(), good, zeroed)?;
-    assert_eq!(rt; ended.zeroed, marks, "{name}");
+    check_pages(rt, ended.pages.as_slice(), good, marked, name);
     Ok(())
 }
 
 /// Checks how a read ends, that the places are told of each block in rising order, and which page
-/// was zeroed, with checksums verified and not.
+/// is marked, with checksums verified and not.
 pub(crate) fn check_case<R: Abort + AllocGlobal + Wait>(
     rt: &R,
     ids: &[CallbackId],
     case: Case,
-    zeroed: Option<u32>,
+    marked: Marked,
 ) -> Result<(), Fail> {
     for checksums in [false, true] {
-        check_either(rt, ids, case, zeroed, checksums)?;
+        check_either(rt, ids, case, marked, checksums)?;
     }
     Ok(())
 }

@@ -3,6 +3,8 @@ use Rattle.std.proofs.Common.{◌≡◌, ℕ, List, [], ◌∷◌, refl, false}
 use Rattle.std.specs.Prelude.{Option, Some, None}
 use Rattle.scan_settings.specs.declared.settings.MethodKind.TheVariants as method
 use Rattle.scan_settings.specs.declared.settings.ScanSettings.{ScanSettings}
+use Rattle.page_check.specs.declared.rules.DamagedPages.TheVariants as damaged_pages
+use Rattle.scan_settings.specs.declared.page_text.PageText.TheVariants.{Items}
 use Rattle.command_line.specs.Command.{Command, command_relations, relation_number}
 use Rattle.vis_map.specs.declared.map.Skip.TheVariants as skip
 use Rattle.request_list.specs.RequestList.{request, all_file_requests}
@@ -27,8 +29,8 @@ any_settings = record {
   full = false;
   segment = 131072;
   checksums = false;
-  zero = false;
-  tuples = false;
+  damaged = damaged_pages.Refuse;
+  page_text = Items;
 }
 
 abbrev command_with : Option ℕ → Option ℕ → List (List ℕ) → Command

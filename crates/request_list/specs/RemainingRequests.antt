@@ -55,7 +55,7 @@ pub record AsksForMap (a : ResolvedCommand) (skip : Skip) : Type 0 where
   pub map : MapOption
   pub given : (a.command.now).map ≡ Some map
   pub skip_is : map.skip ≡ skip
-  pub of : IsMapOf (a.command.now).generated (a.command.now).files map
+  pub of : IsMapOf (a.command.now).generated (a.command.now).files (a.command.now).settings map
 
 -- the greatest block that the FILE words ask for
 abbrev pub greatest_requested_block : ResolvedCommand → Option ℕ

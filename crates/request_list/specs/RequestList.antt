@@ -4,11 +4,11 @@ use Rattle.std.specs.Prelude.{◌==◌, if◌then◌else◌}
 use Rattle.std.specs.List.{flat_map, range_with_len}
 use Rattle.page_check.specs.SynchronousAnswer.{Entry, Given}
 use Rattle.heap_scan.specs.Job.{block_entry, job_entries}
-use Rattle.heap_scan.specs.Listing.{TextOf}
+use Rattle.heap_scan.specs.Listing.{PageFormat}
 use Rattle.vis_map.specs.MapRequest.{greatest_of, map_request, needed_pages, unmarked_entries}
 use Rattle.command_line.specs.Command.{Command, MapOption, command_relations, relation_number}
 use Rattle.command_line.specs.Command.{first_block, asked_count}
-use Rattle.page_check.specs.SynchronousAnswer.{found_at, found_page, zeroing}
+use Rattle.page_check.specs.SynchronousAnswer.{found_at, found_page}
 use Rattle.page_check.specs.Told.{Told}
 use Rattle.page_check.specs.declared.rules.PageRules.{PageRules}
 
@@ -89,13 +89,17 @@ request_parts lengths map_page command =
     (all_file_parts lengths command)
 
 -- the listing leaves out the pages of a map
-abbrev pub without_map_pages : Option MapOption → TextOf → TextOf
-without_map_pages None text_of = text_of
-without_map_pages (Some map) text_of =
-    λ relation block page. if relation == 1 then [] else text_of relation block page
+abbrev pub without_map_pages : Option MapOption → PageFormat → PageFormat
+without_map_pages None format = format
+without_map_pages (Some map) format = record {
+  text_of = λ mark relation block page.
+      if relation == 1 then [] else format.text_of mark relation block page;
+  fault_count_of = λ mark relation block page.
+      if relation == 1 then 0 else format.fault_count_of mark relation block page;
+}
 
 -- the pages of the map where contents are told, or else those that were given
 abbrev pub map_pages_known : Option Told → PageRules → (ℕ → List ℕ) → ℕ → List ℕ
 map_pages_known (Some told) rules given =
-    λ block. found_page (zeroing rules.zero (found_at rules.checksums told) 1 block)
+    λ block. found_page (found_at rules told 1 block)
 map_pages_known None rules given = given

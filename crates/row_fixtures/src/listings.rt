@@ -4,8 +4,23 @@ use aio_disk::ReadEntry;
 use std::alloc::Global;
 use std::test::Fail;
 
-/// The listing that these words say.
+// What is listed of a page: of an empty one, of zeros, of a damaged one `D` or `F`, or of an empty
+// one that is damaged by its checksum.
+fn page_words(kind: &str) -> &'static str {
+    match kind {
+        "new" => "new",
+        "D" => "damaged flags 0 lower 0 upper 0 special 0",
+        "F" => "damaged flags 8 lower 24 upper 8192 special 8192",
+        "E" => "damaged flags 0 lower 24 upper 8192 special 8192",
+        _ => "lower 24 upper 8192 special 8192 items 0",
+    }
+}
+
+/// The listing that these words say, or the lines behind a colon.
 pub fn listing_of(alloc: Global, words: &str) -> Result<String, Fail> {
+    if let Some(lines) = words.trim().strip_prefix(':') {
+        return said_of(alloc, lines);
+    }
     let mut text = String::new(alloc);
     for word in words.split_whitespace() {
         let (place, kind) = halves(word, '=');
@@ -18,12 +33,7 @@ pub fn listing_of(alloc: Global, words: &str) -> Result<String, Fail> {
             last.parse()?
         };
         for block in first..last.saturating_add(1) {
-            if kind == "new" {
-                writeln!(text, "page {relation} {block} new")?;
-            } else {
-                write!(text, "page {relation} {block} lower 24")?;
-                writeln!(text, " upper 8192 special 8192 items 0")?;
-            }
+            writeln!(text, "page {relation} {block} {}", page_words(kind))?;
         }
     }
     Ok(text)

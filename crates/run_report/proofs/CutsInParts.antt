@@ -6,7 +6,7 @@ use Rattle.std.specs.Prelude.{Option, Some, None}
 use Rattle.std.proofs.Math.Seq.{take-append-add, drop-append-add}
 use Rattle.std.proofs.lemmas.List.{drop-append-le, get_or-append-add, get_or_append_left, take_all}
 use Rattle.std.proofs.lemmas.List.{take-append-le}
-use Rattle.heap_scan.specs.Listing.{TextOf, listing}
+use Rattle.heap_scan.specs.Listing.{PageFormat, listing}
 use Rattle.heap_scan.proofs.Jobs.{listing-append}
 use Rattle.aio_disk.specs.Sink.{SinkGrew, SinkGrewByPrefix}
 use Rattle.request_list.specs.RequestList.{Part, Page, Request, blocks_of_parts}
@@ -28,20 +28,20 @@ take_joined {X} (suc k) (x ∷ xs) ys =
     let rest = take_joined k xs ys in (rest.0, ap (λ (l : List X). x ∷ l) rest.1)
 
 -- a begin of a text was written
-begun_text : (b a : Option (List ℕ)) (text : List ℕ) → SinkGrewByPrefix b a text
+pub begun_text : (b a : Option (List ℕ)) (text : List ℕ) → SinkGrewByPrefix b a text
     → (k : ℕ) × SinkGrew b a (take k text)
 begun_text None a text grew = (0, grew)
 begun_text (Some b) a text grew = grew
 
-module _ (text_of : TextOf) where
+module _ (format : PageFormat) where
   abbrev texts : List Page → List ℕ
-  texts pages = listing text_of pages
+  texts pages = listing format pages
 
   -- the write of the only part was cut
   pub cut_alone : (blocks : List Request) (pages : List Page) (b a : Option (List ℕ))
       (text : List ℕ) → length pages ≤ length blocks → text ≡ texts pages → text ≢ []
       → texts [] ≡ [] → SinkGrewByPrefix b a text
-      → IsCutInPart text_of (blocks ∷ []) pages b a 0
+      → IsCutInPart format (blocks ∷ []) pages b a 0
   cut_alone blocks pages b a text few is some none grew =
       let begun = begun_text b a text grew in
       let all = take_all (length blocks) pages few in record {
@@ -54,7 +54,7 @@ module _ (text_of : TextOf) where
       }
 
   module _ (xs ys : List Part) (pages : List Page) (b a : Option (List ℕ)) (whole : ℕ)
-      (cut : IsCutInPart text_of xs pages b a whole) where
+      (cut : IsCutInPart format xs pages b a whole) where
     abbrev before : ℕ
     before = length (blocks_of_parts (take cut.n xs))
 
@@ -72,7 +72,7 @@ module _ (text_of : TextOf) where
         (drop (length (blocks_of_parts l)) pages)) same_begin
 
     -- parts that follow change nothing
-    pub cut_more : IsCutInPart text_of (xs ++ ys) pages b a whole
+    pub cut_more : IsCutInPart format (xs ++ ys) pages b a whole
     cut_more =
         let inside = cut.inside in record {
           n = cut.n;
@@ -91,7 +91,7 @@ module _ (text_of : TextOf) where
     taken = take-append-add ps qs k
 
     texts_taken : texts (take (length ps + k) (ps ++ qs)) ≡ texts ps ++ texts (take k qs)
-    texts_taken = ap texts taken ∙ listing-append text_of ps (take k qs)
+    texts_taken = ap texts taken ∙ listing-append format ps (take k qs)
 
     pub whole_behind : SinkGrew m a (texts (take k qs))
         → SinkGrew b a (texts (take (length ps + k) (ps ++ qs)))
@@ -99,7 +99,7 @@ module _ (text_of : TextOf) where
         SinkGrew-same b a _ _ (sym texts_taken)
         (SinkGrew-append b m a (texts ps) (texts (take k qs)) grew more)
 
-    module _ (cut : IsCutInPart text_of ys qs m a k) where
+    module _ (cut : IsCutInPart format ys qs m a k) where
       begin_joined : blocks_of_parts (take (length xs + cut.n) (xs ++ ys))
           ≡ blocks_of_parts xs ++ blocks_of_parts (take cut.n ys)
       begin_joined =
@@ -126,7 +126,7 @@ module _ (text_of : TextOf) where
           ∙ ap (take (length (get_or ys cut.n [])))
           (drop-append-add ps qs (length (blocks_of_parts (take cut.n ys))))
 
-      pub cut_behind : IsCutInPart text_of (xs ++ ys) (ps ++ qs) b a (length ps + k)
+      pub cut_behind : IsCutInPart format (xs ++ ys) (ps ++ qs) b a (length ps + k)
       cut_behind =
           let inside = cut.inside in
           let next = take cut.begun (texts (pages_of_part ys cut.n qs)) in record {
@@ -151,7 +151,7 @@ module _ (text_of : TextOf) where
         → SinkGrew b a (texts (take whole (ps ++ rest)))
     whole_of_more grew = SinkGrew-same b a _ _ texts_same grew
 
-    module _ (cut : IsCutInPart text_of parts ps b a whole) where
+    module _ (cut : IsCutInPart format parts ps b a whole) where
       abbrev start : ℕ
       start = length (blocks_of_parts (take cut.n parts))
 
@@ -165,13 +165,13 @@ module _ (text_of : TextOf) where
                 ∙ joined.1,
           )
 
-      pub cut_of_more : IsCutInPart text_of parts (ps ++ rest) b a whole
+      pub cut_of_more : IsCutInPart format parts (ps ++ rest) b a whole
       cut_of_more =
           let short = texts (pages_of_part parts cut.n ps) in
           let more = texts longer.0 in
           let begun = take_within cut.begun short more in
           let joined : texts (pages_of_part parts cut.n (ps ++ rest)) ≡ short ++ more =
-          ap texts longer.1 ∙ listing-append text_of (pages_of_part parts cut.n ps) longer.0 in
+          ap texts longer.1 ∙ listing-append format (pages_of_part parts cut.n ps) longer.0 in
           record {
             n = cut.n;
             inside = cut.inside;
@@ -182,11 +182,11 @@ module _ (text_of : TextOf) where
           }
 
 -- another text of the same pages, where it is the same of each part of them
-pub cut_in_text : (text_of other : TextOf) (parts : List Part) (pages : List Page)
+pub cut_in_text : (format other : PageFormat) (parts : List Part) (pages : List Page)
     (b a : Option (List ℕ)) (whole : ℕ)
-    → ((k n : ℕ) → listing text_of (take n (drop k pages)) ≡ listing other (take n (drop k pages)))
-    → IsCutInPart text_of parts pages b a whole → IsCutInPart other parts pages b a whole
-cut_in_text text_of other parts pages b a whole same cut =
+    → ((k n : ℕ) → listing format (take n (drop k pages)) ≡ listing other (take n (drop k pages)))
+    → IsCutInPart format parts pages b a whole → IsCutInPart other parts pages b a whole
+cut_in_text format other parts pages b a whole same cut =
     let n = cut.n in
     let part = same (length (blocks_of_parts (take n parts))) (length (get_or parts n [])) in
     record {
@@ -199,10 +199,10 @@ cut_in_text text_of other parts pages b a whole same cut =
     }
 
 -- each way to stop
-module _ (text_of other : TextOf) (xs ys : List Part) (ps qs : List Page)
+module _ (format other : PageFormat) (xs ys : List Part) (ps qs : List Page)
     (b m a c : Option (List ℕ)) (o : Outcome) (k j : ℕ) where
-  pub stopped_by : (IsCutInPart text_of xs ps b a k → IsCutInPart other ys qs m c j)
-      → (SinkGrew b a (listing text_of (take k ps)) → SinkGrew m c (listing other (take j qs)))
-      → StoppedBehind text_of xs ps b a o k → StoppedBehind other ys qs m c o j
+  pub stopped_by : (IsCutInPart format xs ps b a k → IsCutInPart other ys qs m c j)
+      → (SinkGrew b a (listing format (take k ps)) → SinkGrew m c (listing other (take j qs)))
+      → StoppedBehind format xs ps b a o k → StoppedBehind other ys qs m c o j
   stopped_by cut whole stopped =
       ⊎_elim (λ is. inl (cut is)) (λ is. inr (is.0, whole is.1)) stopped

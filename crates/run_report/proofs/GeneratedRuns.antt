@@ -1,9 +1,12 @@
 -- Runs over generated pages, of which nothing is read.
-use Rattle.std.proofs.Common.{◌≡◌, ℕ, ◌≤◌, List, refl, sym, subst, ◌∙◌, arith, inl, inr, [], Bool}
+use Rattle.std.proofs.Common.{◌≡◌, ℕ, ◌≤◌, List, refl, sym, subst, ◌∙◌, arith, inl, inr, []}
 use Rattle.std.proofs.Common.{false}
 use Rattle.std.specs.Prelude.{Option}
 use Rattle.page_check.specs.Told.{relation_block_count}
-use Rattle.page_check.specs.SynchronousAnswer.{found_at, readable_pages, zeroing}
+use Rattle.page_check.specs.declared.rules.DamagedPages.{DamagedPages}
+use Rattle.page_check.specs.declared.rules.PageRules.{PageRules}
+use Rattle.scan_settings.specs.PageFormats.{page_format}
+use Rattle.scan_settings.specs.declared.page_text.PageText.TheVariants.{Items}
 use Rattle.heap_scan.specs.Sums.{sums_of}
 use Rattle.aio_disk.specs.Counts.{ShelfCounts}
 use Rattle.run_report.specs.Causes.{HasCauses}
@@ -13,12 +16,12 @@ use Rattle.run_report.specs.Run.{summary_line}
 use Rattle.run_report.specs.Outcomes.{unread_count}
 use Rattle.run_report.specs.Outcomes.{is_refused}
 use Rattle.run_report.specs.Output.{ObservedState, OutputGrew, WriteFaultsCounted, observed_state}
-use Rattle.request_list.specs.RequestList.{block_range}
-use Rattle.run_report.specs.Run.{EarlierFit, IsGeneratedOutcome, FitsInOrder, IsWarned}
+use Rattle.run_report.specs.Run.{EarlierFit, IsGeneratedOutcome, FitsInOrder, IsWarned, IsClosed}
 use Rattle.run_report.specs.Run.{IsGeneratedRun, RunWrites, generated_run}
 use Rattle.run_report.specs.declared.report.Outcome.{Outcome}
 use Rattle.run_report.specs.declared.report.Outcome.TheVariants.{Done, CannotWrite, NoMemory}
 use Rattle.run_report.proofs.SinkTextsAppend.{SinkGrewByPrefix-nothing}
+use Rattle.run_report.proofs.ConcludedRuns.{by_cut}
 use Rattle.generated_pages.proofs.GeneratedPagesValid.{generated_block_count}
 use Rattle.run_report.proofs.GeneratedPageReads.{generated_outcome_done, all_quiet}
 
@@ -55,12 +58,23 @@ generated_causes s wb wn o ends written =
       cannot_write = written.cannot_write;
     }
 
-module _ (z : Bool) (n : ℕ) (few : n ≤ 4096) where
+-- how generated pages are read
+abbrev pub unverified : DamagedPages → PageRules
+unverified z = record { checksums = false; damaged = z }
+
+-- a line behind the listing was written, or a begin of it
+pub closed_ends : (text : List ℕ) (b a : Option (List ℕ)) (o : Outcome) → IsClosed text Done b a o
+    → IsGeneratedOutcome o × OutputGrew o b a text
+closed_ends text b a o is =
+    let P : Outcome → Type 0 = λ x. IsGeneratedOutcome x × OutputGrew x b a text in elim is [
+      | inl all ↦ subst P (sym all.0) (inl refl, all.1)
+      | inr cut ↦ by_cut P (inr (inl refl), cut.1) (inr (inr refl), cut.1) o cut.0
+    ]
+
+module _ (z : DamagedPages) (n : ℕ) (few : n ≤ 4096) where
   -- the line of the sums
   abbrev text : List ℕ
-  text =
-      summary_line (sums_of (readable_pages
-      (zeroing z (found_at false (generated_told n))) (block_range 0 0 n)))
+  text = summary_line (sums_of (page_format Items) (generated_run z n).pages)
 
   -- the one relation of generated pages is not too long
   pub generated_fits : EarlierFit (length_limit 131072) (relation_block_count (generated_told n)) 1
@@ -78,15 +92,15 @@ module _ (z : Bool) (n : ℕ) (few : n ≤ 4096) where
     in_order = by_end (λ x. FitsInOrder (length_limit 131072)
         (relation_block_count (generated_told n)) 1 x) generated_fits generated_fits tt o ends;
     writes = by_end (λ x. OutputGrew x b a text → RunWrites (generated_run z n) b a x)
-        (λ all. (generated_outcome_done z false refl n few, all)) (λ cut. cut) (λ cut. cut) o ends grew;
+        (λ all. (generated_outcome_done (unverified z) refl n few, all)) (λ cut. cut) (λ cut. cut) o ends grew;
     reads = refl;
     no_warnings = none;
     warnings_are = by_end (λ x. IsWarned (generated_run z n) b a x w)
-        (none ∙ sym (all_quiet z false refl n few)) none none o ends;
+        (none ∙ sym (all_quiet (unverified z) refl n few)) none none o ends;
   }
 
 -- there was no memory
-pub ran_generated_without_memory : (z : Bool) (n : ℕ) (s : ObservedState) (w : List ℕ) → w ≡ []
+pub ran_generated_without_memory : (z : DamagedPages) (n : ℕ) (s : ObservedState) (w : List ℕ) → w ≡ []
     → IsGeneratedRun z n s s NoMemory w
 ran_generated_without_memory z n s w none = record {
   ends = inr (inr refl);

@@ -4,14 +4,17 @@ use Rattle.std.proofs.Common.{arith, inl, inr, append-nil, [], take, true, false
 use Rattle.std.specs.Prelude.{Option, Some}
 use Rattle.page_check.specs.Told.{Told, relation_block_count}
 use Rattle.page_check.specs.SynchronousAnswer.{found_at, readable_pages, first_stop, found_page}
-use Rattle.page_check.specs.SynchronousAnswer.{zeroing}
+use Rattle.page_check.specs.declared.rules.PageRules.{PageRules}
+use Rattle.scan_settings.specs.Settings.{page_rules}
+use Rattle.scan_settings.specs.PageFormats.{page_format}
+use Rattle.scan_settings.specs.declared.page_text.PageText.TheVariants.{Items}
 use Rattle.heap_scan.specs.Sums.{sums_of}
 use Rattle.heap_scan.specs.Warnings.{warnings_of}
 use Rattle.heap_scan.specs.declared.sums.PageSums.{PageSums}
 use Rattle.aio_disk.specs.Counts.{CountRose, ShelfCounts}
 use Rattle.aio_disk.specs.Shelf.{are_there, shelf_told}
 use Rattle.command_line.specs.Command.{Command, AsksForGeneratedPages, without_duplicates}
-use Rattle.command_line.specs.Command.{options_of_settings, MapOption, command_relations}
+use Rattle.command_line.specs.Command.{MapOption, command_relations}
 use Rattle.command_line.specs.Command.{relations_with}
 use Rattle.generated_pages.specs.GeneratedPages.{generated_file_name, generated_shelf_files}
 use Rattle.generated_pages.specs.GeneratedPages.{generated_told}
@@ -19,18 +22,22 @@ use Rattle.run_report.specs.Causes.{HasCauses}
 use Rattle.run_report.specs.Output.{ObservedState}
 use Rattle.request_list.specs.RequestList.{Request, block_range, request_list, all_file_requests}
 use Rattle.request_list.specs.RequestList.{with_map}
-use Rattle.run_report.specs.Run.{IsWarned, IsFileRun, outcome_of_stop, file_run}
-use Rattle.run_report.specs.Sums.{HasSums, HasSumsTold}
+use Rattle.run_report.specs.Run.{summary_line, generated_run}
+use Rattle.run_report.specs.Sums.{saturated_sums}
+use Rattle.run_report.specs.Run.{IsWarned, IsListedRun, outcome_of_stop, listed_run}
 use Rattle.run_report.specs.declared.report.Outcome.{Outcome}
 use Rattle.run_report.specs.declared.report.Outcome.TheVariants.{Done, NoMemory, Usage, CannotOpen}
 use Rattle.generated_pages.proofs.GeneratedPagesValid.{generated_block_count}
 use Rattle.run_report.proofs.GeneratedPageReads.{generated_outcome_done, all_quiet, none_warned}
-use Rattle.run_report.proofs.GeneratedPageReads.{generated_sums}
+use Rattle.run_report.proofs.GeneratedPageReads.{generated_summary}
 use Rattle.run_report.proofs.GeneratedRuns.{generated_fits}
 use Rattle.run_report.proofs.ExactOutcomes.{faultless}
-use Rattle.run_report.proofs.FileRunsOverTold.{writes, is_warned}
+use Rattle.run_report.proofs.FileRunsOverTold.{writes, is_warned, has_sums}
 
 module _ (n : ℕ) (c : Command) (is : AsksForGeneratedPages n c) where
+  abbrev rules : PageRules
+  rules = page_rules c.settings
+
   generated_relations : command_relations c ≡ without_duplicates (generated_file_name ∷ [])
   generated_relations =
       ap (λ (map : Option MapOption). relations_with c.files map) is.4 ∙ ap without_duplicates is.0
@@ -67,27 +74,28 @@ module _ (n : ℕ) (c : Command) (is : AsksForGeneratedPages n c) where
       names) generated_relations
 
   -- the run over them listed all, or found no memory
-  module _ (told : Option Told) (relations : ℕ) (b a : ObservedState) (o : Outcome) (w : List ℕ)
+  module _ (told : Option Told) (relations : ℕ) (b a : ObservedState) (o : Outcome)
+      (sums : PageSums) (w : List ℕ)
       (told_is : told ≡ Some (generated_told n)) (one : relations ≡ 1)
-      (ran : IsFileRun told relations c b a o w) where
-    ran_here : IsFileRun (Some (generated_told n)) (length (command_relations c)) c b a o w
+      (ran : IsListedRun told relations c b a o sums w) where
+    ran_here : IsListedRun (Some (generated_told n)) (length (command_relations c)) c b a o sums w
     ran_here = rw (one_relation, ← one, ← told_is) ran
 
     pub all_listed : (before now : ShelfCounts) (wb wn : ℕ) → HasCauses before now wb wn o
         → o ≢ Usage → o ≢ CannotOpen → ¬ CountRose before.length_faults now.length_faults
         → ¬ CountRose before.faults now.faults → ¬ CountRose wb wn → (o ≡ Done) ⊎ (o ≡ NoMemory)
     all_listed before now wb wn causes words sure lengths reads failed =
-        let run = file_run (generated_told n) c in
-        let found = zeroing c.settings.zero (found_at c.settings.checksums (generated_told n)) in
+        let run = listed_run (generated_told n) c in
+        let found = found_at rules (generated_told n) in
         let done : run.outcome ≡ Done =
         ap (λ (l : List Request). outcome_of_stop found (first_stop found l))
         (generated_list (λ block. found_page (found 1 block)))
-        ∙ generated_outcome_done c.settings.zero c.settings.checksums is.5 n is.3 in
+        ∙ generated_outcome_done rules is.5 n is.3 in
         elim (faultless run b.written a.written o words sure
         (λ r is. lengths (causes.no_length r is)) (λ r k is. reads (causes.unread r k is))
         (λ is. failed (causes.cannot_write is)) ran_here.in_order
-        (writes (generated_told n) _ c b a o w ran_here)
-        (λ q below. generated_fits c.settings.zero n is.3 q (omega (arith, below, one_relation)))) [
+        (writes (generated_told n) _ c b a o sums w ran_here)
+        (λ q below. generated_fits c.settings.damaged n is.3 q (omega (arith, below, one_relation)))) [
           | inl same ↦ inl (same ∙ done)
           | inr memory ↦ inr memory
         ]
@@ -95,30 +103,36 @@ module _ (n : ℕ) (c : Command) (is : AsksForGeneratedPages n c) where
     -- and has warned of nothing
     pub none_to_warn : (o ≡ Done) ⊎ (o ≡ NoMemory) → w ≡ []
     none_to_warn ends =
-        let found = zeroing c.settings.zero (found_at c.settings.checksums (generated_told n)) in
-        let run = file_run (generated_told n) c in
-        let said = is_warned (generated_told n) _ c b a o w ran_here in
+        let found = found_at rules (generated_told n) in
+        let run = listed_run (generated_told n) c in
+        let said = is_warned (generated_told n) _ c b a o sums w ran_here in
         let Q : Outcome → Type 0 = λ x. IsWarned run b.written a.written x w in elim ends [
           | inl done ↦ subst Q done said
               ∙ ap (λ (l : List Request). warnings_of (readable_pages found l))
               (generated_list (λ block. found_page (found 1 block)))
-              ∙ all_quiet c.settings.zero c.settings.checksums is.5 n is.3
+              ∙ all_quiet rules is.5 n is.3
           | inr memory ↦ let cut = subst Q memory said in
               cut.warnings_are
               ∙ ap (λ (l : List Request). warnings_of (take cut.k (readable_pages found l)))
               (generated_list (λ block. found_page (found 1 block)))
-              ∙ none_warned c.settings.zero c.settings.checksums is.5 n is.3 cut.k
+              ∙ none_warned rules is.5 n is.3 cut.k
         ]
 
-  pub listed_sums_generated : (told : Option Told) (o : Outcome) (sums : PageSums)
-      → told ≡ Some (generated_told n) → o ≡ Done → HasSumsTold told c o sums
-      → sums ≡ sums_of (readable_pages (zeroing c.settings.zero (found_at false (generated_told n)))
-      (block_range 0 0 n))
-  listed_sums_generated told o sums told_is done has =
-      let Q : List Request → Type 0 =
-      λ l. HasSums (options_of_settings c.settings) (Some (generated_told n)) l sums in
-      let S : Bool → Type 0 = λ checksums. sums ≡ sums_of (readable_pages
-      (zeroing c.settings.zero (found_at checksums (generated_told n))) (block_range 0 0 n)) in
-      subst S is.5
-      (generated_sums c.settings.zero c.settings.checksums is.5 n is.3 c.settings.tuples sums
-      (subst Q generated_requests (rw told_is at (has done is.4))))
+    -- the line of the sums is that of the pages
+    pub listed_summary : o ≡ Done → summary_line sums
+        ≡ summary_line (sums_of (page_format Items) (generated_run c.settings.damaged n).pages)
+    listed_summary done =
+        let found = found_at rules (generated_told n) in
+        let format = (listed_run (generated_told n) c).format in
+        let L : Outcome → Type 0 =
+        λ x. IsListedRun (Some (generated_told n)) (length (command_relations c)) c b a x sums w in
+        let S : Bool → Type 0 = λ x. summary_line sums
+        ≡ summary_line (sums_of (page_format Items)
+        (readable_pages (found_at (record { checksums = x; damaged = c.settings.damaged })
+        (generated_told n)) (block_range 0 0 n))) in
+        let has = has_sums (generated_told n) _ c b a sums w (subst L done ran_here) is.4 in
+        subst S is.5
+        (ap summary_line has
+        ∙ ap (λ (l : List Request). summary_line (saturated_sums (sums_of format
+        (readable_pages found l)))) (generated_list (λ block. found_page (found 1 block)))
+        ∙ generated_summary rules is.5 n is.3 format)

@@ -1,9 +1,10 @@
 pub mod SinkTextsAppend
 pub mod OutputsAppend
 pub mod CutsInParts
+pub mod ConcludedRuns
+pub mod ConclusionCauses
 pub mod RefusedRuns
 pub mod ListedRuns
-pub mod SumsOverTold
 mod RunsOverTold
 mod FileRunsOverTold
 mod ExactOutcomes

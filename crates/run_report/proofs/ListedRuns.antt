@@ -6,17 +6,17 @@ use Rattle.page_check.specs.Told.{Told, relation_block_count}
 use Rattle.aio_disk.specs.Counts.{count_plus}
 use Rattle.aio_handle.specs.Execution.{last_count}
 use Rattle.command_line.specs.Command.{Command, command_relations}
-use Rattle.request_list.specs.RequestList.{blocks_of_parts, request_list, request_parts}
-use Rattle.run_report.specs.Outcomes.{is_refused}
+use Rattle.request_list.specs.RequestList.{Part, blocks_of_parts, request_list, request_parts}
+use Rattle.run_report.specs.Outcomes.{is_refused, can_end_listing}
 use Rattle.run_report.specs.Lengths.{HasAllLengths}
-use Rattle.run_report.specs.Output.{ObservedState, observed_state, IsOutput}
+use Rattle.run_report.specs.Output.{ObservedState, observed_state}
+use Rattle.run_report.specs.Sums.{HasListed}
+use Rattle.heap_scan.specs.declared.sums.PageSums.{PageSums}
 use Rattle.request_list.specs.RequestList.{map_pages_known}
-use Rattle.run_report.specs.Output.{command_format}
-use Rattle.run_report.specs.Run.{IsFileRun, EarlierFit, FitsInOrder, lengths_known, limit_known}
+use Rattle.run_report.specs.Run.{IsListedRun, EarlierFit, FitsInOrder, lengths_known, limit_known}
 use Rattle.run_report.specs.declared.report.Outcome.{Outcome}
 use Rattle.run_report.specs.declared.report.Outcome.TheVariants.{Usage, CannotOpen, NoLength}
 use Rattle.run_report.specs.declared.report.Outcome.TheVariants.{NoMemory, TooLong}
-use Rattle.run_report.proofs.OutputsAppend.{lists_same}
 use Rattle.request_list.proofs.FileRequestsAppend.{request_parts-same}
 use Rattle.request_list.proofs.PartsOfRequests.{request_blocks}
 use Rattle.scan_settings.specs.Settings.{page_rules}
@@ -50,41 +50,51 @@ same_parts (Some t) segment relations command lengths map_page all has =
     request_parts-same (slice_index lengths) (relation_block_count t) map_page command
     (λ r below. has.told_lengths r (omega (arith, has.all)))
 
+pub listing_not_refused : (o : Outcome) → can_end_listing o ≡ true → is_refused o ≡ false
+listing_not_refused Usage is = absurd (cc)
+listing_not_refused CannotOpen is = absurd (cc)
+listing_not_refused (NoLength r) is = absurd (cc)
+listing_not_refused (TooLong r) is = absurd (cc)
+listing_not_refused _ is = refl
+
 refused_not : (o : Outcome) → is_refused o ≡ false → is_refused o ≡ true → ⊥
 refused_not o not is = absurd (cc)
 
 -- blocks were listed, all of them or up to a stop
 pub ran_listed : (told now : Option Told) (segment relations : ℕ) (command : Command)
     (lengths : List ℕ) (given : ℕ → List ℕ) (output after : Option (List ℕ)) (read : ℕ)
-    (o : Outcome) (w : List ℕ) → now ≡ told → relations ≡ length (command_relations command)
+    (o : Outcome) (sums : PageSums) (w : List ℕ) → now ≡ told
+    → relations ≡ length (command_relations command)
     → HasAllLengths told segment relations lengths
-    → IsOutput (command_format command) now (request_parts (slice_index lengths)
-    (map_pages_known now (page_rules command.settings) given) command) output after o w
+    → HasListed command now (request_parts (slice_index lengths)
+    (map_pages_known now (page_rules command.settings) given) command) output after o sums w
     → (read < last_count → read ≤ length (request_list (slice_index lengths)
     (map_pages_known now (page_rules command.settings) given) command))
-    → IsFileRun told relations command (observed_state output 0) (observed_state after read) o w
-ran_listed told now segment relations command lengths given output after read o w same all has lists
-    few =
+    → IsListedRun told relations command (observed_state output 0) (observed_state after read) o
+    sums w
+ran_listed told now segment relations command lengths given output after read o sums w same all has
+    listed few =
     let map_page = map_pages_known told (page_rules command.settings) given in
     let parts = same_parts told segment relations command lengths map_page all has in
     let requests = sym (request_blocks (slice_index lengths) map_page command)
     ∙ ap blocks_of_parts parts
     ∙ request_blocks (lengths_known told (slice_index lengths)) map_page command in
     let L : Option Told → Type 0 =
-    λ n. IsOutput (command_format command) n (request_parts (slice_index lengths)
-    (map_pages_known n (page_rules command.settings) given) command) output after o w in
+    λ n. HasListed command n (request_parts (slice_index lengths)
+    (map_pages_known n (page_rules command.settings) given) command) output after o sums w in
+    let K : List Part → Type 0 = λ l. HasListed command told l output after o sums w in
+    let begun = listing_not_refused o listed.lists.ends_listing in
     let F : Option Told → Type 0 = λ n. read < last_count → read ≤ length (request_list
     (slice_index lengths) (map_pages_known n (page_rules command.settings) given) command) in
     let fewer = subst F same few in record {
       answered = slice_index lengths;
       map_page = given;
       segment = segment;
-      in_order = fits_where_listed _ _ relations o lists.not_refused
+      in_order = fits_where_listed _ _ relations o begun
           (lengths_fit told segment relations lengths has);
-      is_output = λ is. lists_same (command_format command) told _ _ output after o w parts
-          (subst L same lists);
+      is_output = λ is. subst K parts (subst L same listed);
       few_reads = λ below. omega (arith, fewer below, ap length requests);
-      output_same = λ is. absurd (refused_not o lists.not_refused is);
+      output_same = λ is. absurd (refused_not o begun is);
     }
 
 shelf_few : (read reads now most : ℕ) → now ≡ count_plus read reads
@@ -102,12 +112,13 @@ shelf_untouched output after read reads now back same =
 
 -- a disk that was not read before is taken back
 pub ran_on_shelf : (told now : Option Told) (relations count : ℕ) (command : Command)
-    (output after : Option (List ℕ)) (read reads total : ℕ) (o : Outcome) (w : List ℕ)
-    → now ≡ told → count ≡ relations → total ≡ count_plus read reads
-    → IsFileRun now count command (observed_state output 0) (observed_state after read) o w
-    → IsFileRun told relations command (observed_state output reads)
-    (observed_state after total) o w
-ran_on_shelf told now relations count command output after read reads total o w same all back run =
+    (output after : Option (List ℕ)) (read reads total : ℕ) (o : Outcome) (sums : PageSums)
+    (w : List ℕ) → now ≡ told → count ≡ relations → total ≡ count_plus read reads
+    → IsListedRun now count command (observed_state output 0) (observed_state after read) o sums w
+    → IsListedRun told relations command (observed_state output reads)
+    (observed_state after total) o sums w
+ran_on_shelf told now relations count command output after read reads total o sums w same all back
+    run =
     rw (← same, ← all) (record {
       answered = run.answered;
       map_page = run.map_page;

@@ -12,7 +12,7 @@ use Rattle.page_check.proofs.AnswersOfLists.{length_whole}
 use Rattle.page_check.proofs.AnswersOfBlocks.{answered_no_block}
 use Rattle.page_check.specs.IsAnswer.{IsAnswer}
 use Rattle.heap_scan.specs.Job.{IsJobAnswer, endings_of}
-use Rattle.heap_scan.specs.Listing.{TextOf, listing}
+use Rattle.heap_scan.specs.Listing.{PageFormat, listing}
 use Rattle.heap_scan.specs.Sums.{sums_joined, no_sums, sums_of}
 use Rattle.heap_scan.specs.declared.sums.PageSums.{PageSums}
 use Rattle.heap_scan.specs.Warnings.{warnings_of}
@@ -31,43 +31,43 @@ use Rattle.request_list.proofs.PartsOfRequests.{blocks-append}
 use Rattle.run_report.proofs.SinkTextsAppend.{SinkGrew-nothing, SinkGrew-append, SinkGrew-same}
 use Rattle.run_report.proofs.SinkTextsAppend.{SinkGrewByPrefix-nothing, SinkGrewByPrefix-append}
 
-pub no_listing : (text_of : TextOf) → listing text_of (let none : List Page = [] in none) ≡ []
+pub no_listing : (format : PageFormat) → listing format (let none : List Page = [] in none) ≡ []
 unfolding listing
-no_listing text_of = refl
+no_listing format = refl
 
-pub no_pages_sums : sums_of (let none : List Page = [] in none) ≡ no_sums
-no_pages_sums = sums_of-none (Unit {0})
+pub no_pages_sums : (format : PageFormat) → sums_of format (let none : List Page = [] in none) ≡ no_sums
+no_pages_sums format = sums_of-none (Unit {0}) format
 
 pub no_warnings : warnings_of (let none : List Page = [] in none) ≡ []
 unfolding warnings_of
 no_warnings = refl
 
 -- no blocks have no pages
-pub no_answer : (text_of : TextOf) (found : Reading)
-    → IsJobAnswer text_of found (λ (e : Request). ⊤) [] [] [] no_sums (Some End)
-no_answer text_of found = record {
+pub no_answer : (format : PageFormat) (found : Reading)
+    → IsJobAnswer format found (λ (e : Request). ⊤) [] [] [] no_sums (Some End)
+no_answer format found = record {
   pages = [];
-  text_is = sym (no_listing text_of);
+  text_is = sym (no_listing format);
   warnings_are = sym no_warnings;
-  sums_are = sym no_pages_sums;
+  sums_are = sym (no_pages_sums format);
   answers = answered_no_block found (λ _. ⊤);
 }
 
 -- no page was listed
-pub listed_none : (text_of : TextOf) (s : Option (List ℕ))
-    → SinkGrew s s (listing text_of (let none : List Page = [] in none))
-listed_none text_of s = SinkGrew-same s s [] _ (sym (no_listing text_of)) (SinkGrew-nothing s)
+pub listed_none : (format : PageFormat) (s : Option (List ℕ))
+    → SinkGrew s s (listing format (let none : List Page = [] in none))
+listed_none format s = SinkGrew-same s s [] _ (sym (no_listing format)) (SinkGrew-nothing s)
 
 -- no parts
 unfoldable pub lists_none : (m : ListFormat) (told : Option Told) (s : Option (List ℕ))
     → IsOutput m told [] s s Done []
 unfolding no_answer
 lists_none m told s = record {
-  not_refused = refl;
+  ends_listing = refl;
   text = [];
   all_warnings = [];
   sums = no_sums;
-  answer = no_answer m.text_of (reading_of m.rules told);
+  answer = no_answer m.page_format (reading_of m.rules told);
   named_block_is = λ e is. absurd (cc);
   output_grew = SinkGrew-nothing s;
   whole = 0;
@@ -89,8 +89,8 @@ OutputGrew-append _ b m a xs ys first second = SinkGrew-append b m a xs ys first
 -- the same answer, where the blocks are known by another list
 abbrev pub with_blocks : (m : ListFormat) (told : Option Told) (xs ys : List Request)
     (text warnings : List ℕ) (sums : PageSums) (end : Option Ending) → xs ≡ ys
-    → IsJobAnswer m.text_of (reading_of m.rules told) (λ _. ⊤) xs text warnings sums end
-    → IsJobAnswer m.text_of (reading_of m.rules told) (λ _. ⊤) ys text warnings sums end
+    → IsJobAnswer m.page_format (reading_of m.rules told) (λ _. ⊤) xs text warnings sums end
+    → IsJobAnswer m.page_format (reading_of m.rules told) (λ _. ⊤) ys text warnings sums end
 with_blocks m told xs ys text warnings sums end same answer =
     let P : List Request → Type 0 = λ l. IsAnswer (reading_of m.rules told) (λ _. ⊤) l
     (record { pages = answer.pages; endings = endings_of end }) in record {
@@ -116,9 +116,9 @@ unfoldable pub lists_append : (m : ListFormat) (told : Option Told) (xs ys : Lis
     → IsOutput m told (xs ++ ys) b a o (v ++ w)
 unfolding job_append
 lists_append m told xs ys b between a o v w front back =
-    let text_of = m.text_of in
+    let format = m.page_format in
     let found = reading_of m.rules told in
-    let texts : List Page → List ℕ = listing text_of in
+    let texts : List Page → List ℕ = listing format in
     let ps = front.answer.pages in
     let qs = back.answer.pages in
     let n = length ps in
@@ -129,11 +129,11 @@ lists_append m told xs ys b between a o v w front back =
     let all : n ≡ length us = length_whole found us ps front.answer.answers.endings.0 in
     let among = back.pages_within in
     let grew = SinkGrew-same b between _ _ front.answer.text_is front.output_grew in
-    let joined = job_append text_of found (λ _. ⊤) us vs front.text back.text front.all_warnings
+    let joined = job_append format found (λ _. ⊤) us vs front.text back.text front.all_warnings
     back.all_warnings front.sums back.sums (outcome_ending o) front.answer back.answer in
     let taken : take (n + back.whole) (ps ++ qs) ≡ ps ++ take back.whole qs =
     take-append-add ps qs back.whole in record {
-      not_refused = back.not_refused;
+      ends_listing = back.ends_listing;
       text = front.text ++ back.text;
       all_warnings = front.all_warnings ++ back.all_warnings;
       sums = sums_joined front.sums back.sums;
@@ -148,10 +148,10 @@ lists_append m told xs ys b between a o v w front back =
       whole = n + back.whole;
       pages_within = omega (arith, size);
       all = λ is. (let every = back.all is in omega (arith, size));
-      stopped_behind = λ is. stopped_by text_of text_of ys (xs ++ ys) qs (ps ++ qs) between b a a o
-          back.whole (n + back.whole) (cut_behind text_of xs ys ps qs b between a back.whole all
+      stopped_behind = λ is. stopped_by format format ys (xs ++ ys) qs (ps ++ qs) between b a a o
+          back.whole (n + back.whole) (cut_behind format xs ys ps qs b between a back.whole all
           grew)
-          (whole_behind text_of xs ys ps qs b between a back.whole all grew) (back.stopped_behind is);
+          (whole_behind format xs ys ps qs b between a back.whole all grew) (back.stopped_behind is);
       warnings_are =
           ap (λ (l : List ℕ). l ++ w) (all_warned m told xs b between Done v front (front.all refl))
           ∙ ap (λ (l : List ℕ). warnings_of ps ++ l) back.warnings_are
@@ -182,10 +182,10 @@ lists_more m told xs ys b a o w stops front =
     let us = blocks_of_parts xs in
     let vs = blocks_of_parts ys in
     let both = blocks-append xs ys in
-    let longer = job_more m.text_of (reading_of m.rules told) (λ _. ⊤) us vs front.text
+    let longer = job_more m.page_format (reading_of m.rules told) (λ _. ⊤) us vs front.text
     front.all_warnings front.sums (outcome_ending o) (early o stops) front.answer in
     let pages = front.answer.pages in record {
-      not_refused = front.not_refused;
+      ends_listing = front.ends_listing;
       text = front.text;
       all_warnings = front.all_warnings;
       sums = front.sums;
@@ -197,8 +197,8 @@ lists_more m told xs ys b a o w stops front =
       whole = front.whole;
       pages_within = front.pages_within;
       all = front.all;
-      stopped_behind = λ is. stopped_by m.text_of m.text_of xs (xs ++ ys) pages pages b b a a o front.whole
-          front.whole (cut_more m.text_of xs ys pages b a front.whole) (λ grew. grew)
+      stopped_behind = λ is. stopped_by m.page_format m.page_format xs (xs ++ ys) pages pages b b a a o front.whole
+          front.whole (cut_more m.page_format xs ys pages b a front.whole) (λ grew. grew)
           (front.stopped_behind is);
       warnings_are = front.warnings_are;
       no_warnings = front.no_warnings;
@@ -211,18 +211,18 @@ lists_same m told xs ys b a o w same lists =
     let P : List Part → Type 0 = λ l. IsOutput m told l b a o w in subst P same lists
 
 -- there was no memory before a page was given
-pub lists_nothing : (m : ListFormat) (told : Option Told) (xs : List Part) (s : Option (List ℕ))
+unfoldable pub lists_nothing : (m : ListFormat) (told : Option Told) (xs : List Part) (s : Option (List ℕ))
     → IsOutput m told xs s s NoMemory []
 lists_nothing m told xs s = record {
-  not_refused = refl;
+  ends_listing = refl;
   text = [];
   all_warnings = [];
   sums = no_sums;
   answer = record {
     pages = [];
-    text_is = sym (no_listing m.text_of);
+    text_is = sym (no_listing m.page_format);
     warnings_are = sym no_warnings;
-    sums_are = sym no_pages_sums;
+    sums_are = sym (no_pages_sums m.page_format);
     answers = answered_none (reading_of m.rules told) (λ _. ⊤) (blocks_of_parts xs);
   };
   named_block_is = λ e is. absurd (cc);
@@ -230,7 +230,7 @@ lists_nothing m told xs s = record {
   whole = 0;
   pages_within = omega arith;
   all = λ is. absurd (cc);
-  stopped_behind = λ is. inr (refl, listed_none m.text_of s);
+  stopped_behind = λ is. inr (refl, listed_none m.page_format s);
   warnings_are = sym no_warnings;
   no_warnings = λ _. refl;
 }

@@ -8,7 +8,9 @@ use Rattle.command_line.specs.Command.{Command, command_relations}
 use Rattle.run_report.specs.Lengths.{LengthsFailed}
 use Rattle.run_report.specs.Outcomes.{is_refused}
 use Rattle.run_report.specs.Output.{ObservedState, command_format}
-use Rattle.run_report.specs.Run.{IsFileRun, IsSourceRun, IsCommandRun, EarlierFit, FitsInOrder}
+use Rattle.heap_scan.specs.Sums.{no_sums}
+use Rattle.heap_scan.specs.declared.sums.PageSums.{PageSums}
+use Rattle.run_report.specs.Run.{IsListedRun, IsSourceRun, IsCommandRun, EarlierFit, FitsInOrder}
 use Rattle.run_report.specs.Run.{lengths_known, limit_known}
 use Rattle.run_report.specs.declared.report.Outcome.{Outcome}
 use Rattle.run_report.specs.declared.report.Outcome.TheVariants.{CannotOpen, NoLength}
@@ -41,41 +43,47 @@ long_known (Some t) limit r long = long
 
 -- nothing was read: the run was refused, or there was no memory
 ran_nothing : (told : Option Told) (relations : ℕ) (command : Command) (s : ObservedState)
-    (answered : ℕ → ℕ) (segment : ℕ) (o : Outcome)
+    (answered : ℕ → ℕ) (segment : ℕ) (o : Outcome) (sums : PageSums)
     → FitsInOrder (limit_known told segment) (lengths_known told answered) relations o
-    → (is_refused o ≡ false → o ≡ NoMemory) → IsFileRun told relations command s s o []
-ran_nothing told relations command s answered segment o fits memory = record {
+    → (is_refused o ≡ false → (o ≡ NoMemory) × (sums ≡ no_sums))
+    → IsListedRun told relations command s s o sums []
+unfolding lists_nothing
+ran_nothing told relations command s answered segment o sums fits memory = record {
   answered = answered;
   map_page = λ _. [];
   segment = segment;
   in_order = fits;
-  is_output = λ begun. rw (memory begun) (lists_nothing (command_format command) told _ s.written);
+  is_output = λ begun.
+      (let none = memory begun in rw (none.0, none.1) (record {
+        lists = lists_nothing (command_format command) told _ s.written;
+        sums_are = λ _. refl;
+      }));
   few_reads = λ _. omega arith;
   output_same = λ _. (refl, refl);
 }
 
 pub ran_out_of_memory : (told : Option Told) (relations : ℕ) (command : Command) (s : ObservedState)
-    → IsFileRun told relations command s s NoMemory []
+    → IsListedRun told relations command s s NoMemory no_sums []
 ran_out_of_memory told relations command s =
-    ran_nothing told relations command s (λ _. 0) 0 NoMemory tt (λ _. refl)
+    ran_nothing told relations command s (λ _. 0) 0 NoMemory no_sums tt (λ _. (refl, refl))
 
 -- no disk was opened
 pub ran_without_disk : (told : Option Told) (relations : ℕ) (command : Command) (s : ObservedState)
-    → IsFileRun told relations command s s CannotOpen []
-ran_without_disk told relations command s =
-    ran_nothing told relations command s (λ _. 0) 0 CannotOpen tt (λ begun. absurd (cc))
+    (sums : PageSums) → IsListedRun told relations command s s CannotOpen sums []
+ran_without_disk told relations command s sums =
+    ran_nothing told relations command s (λ _. 0) 0 CannotOpen sums tt (λ begun. absurd (cc))
 
 -- the lengths could not be had
 pub ran_refused : (told : Option Told) (relations : ℕ) (command : Command) (s : ObservedState)
     (segment : ℕ) (o : Outcome) → LengthsFailed told segment relations o
-    → IsFileRun told relations command s s o []
+    → IsListedRun told relations command s s o no_sums []
 ran_refused told relations command s segment (NoLength r) has =
     let limit = limit_known told segment in
-    ran_nothing told relations command s (long_at limit r) segment (NoLength r)
+    ran_nothing told relations command s (long_at limit r) segment (NoLength r) no_sums
     (has.0, earlier_known told limit r has.1) (λ begun. absurd (cc))
 ran_refused told relations command s segment (TooLong r) has =
     let limit = limit_known told segment in
-    ran_nothing told relations command s (long_at limit r) segment (TooLong r)
+    ran_nothing told relations command s (long_at limit r) segment (TooLong r) no_sums
     (has.0, long_known told limit r has.2, earlier_known told limit r has.1)
     (λ begun. absurd (cc))
 ran_refused told relations command s segment NoMemory has =
@@ -84,9 +92,15 @@ ran_refused told relations command s segment _ has = absurd has
 
 unread_by : (files : Option Files) (c : Command) (generated : Option ℕ) (s : ObservedState)
     → IsSourceRun files c generated s s NoMemory []
-unread_by files c None s =
-    ran_out_of_memory (shelf_told files (command_relations c)) (length (command_relations c)) c s
-unread_by files c (Some n) s = ran_generated_without_memory c.settings.zero n s [] refl
+unread_by files c None s = record {
+  between = s.written;
+  sums = no_sums;
+  ended = NoMemory;
+  listed = ran_out_of_memory (shelf_told files (command_relations c))
+      (length (command_relations c)) c s;
+  concluded = (refl, refl);
+}
+unread_by files c (Some n) s = ran_generated_without_memory c.settings.damaged n s [] refl
 
 -- words that may be a command could not be read for want of memory
 pub ran_unread : (files : Option Files) (command : Option Command) (s : ObservedState)

@@ -1,14 +1,15 @@
 -- Outputs over contents that are told: their pages are the first of synchronous reads.
 use Rattle.std.proofs.Common.{◌≡◌, ℕ, ◌≤◌, List, ◌++◌, length, take, sym, ap, ◌∙◌, arith}
-use Rattle.std.proofs.Common.{length-append, subst, true}
+use Rattle.std.proofs.Common.{length-append, subst, true, inl}
 use Rattle.std.specs.Prelude.{Some, slice_get}
 use Rattle.std.proofs.Math.Seq.{take-append_seam}
 use Rattle.std.proofs.lemmas.List.{take-append-le}
 use Rattle.page_check.specs.Told.{Told}
-use Rattle.page_check.specs.SynchronousAnswer.{Reader, zeroing, found_at}
+use Rattle.page_check.specs.SynchronousAnswer.{Reader, found_at}
 use Rattle.page_check.specs.SynchronousAnswer.{readable_pages, first_stop}
 use Rattle.page_check.proofs.AnswersOfLists.{all_given, first_stop-length}
-use Rattle.heap_scan.specs.Listing.{TextOf, listing}
+use Rattle.heap_scan.specs.Listing.{PageFormat, listing}
+use Rattle.heap_scan.specs.Sums.{sums_of}
 use Rattle.heap_scan.specs.Warnings.{warnings_of}
 use Rattle.heap_scan.proofs.Jobs.{listing-append}
 use Rattle.aio_disk.specs.Sink.{SinkGrew, SinkGrewByPrefix}
@@ -29,10 +30,10 @@ module _ (m : ListFormat) (t : Told) (parts : List Part) (b a : ObservedState) (
   requests = blocks_of_parts parts
 
   abbrev f : Reader
-  f = zeroing m.rules.zero (found_at m.rules.checksums t)
+  f = found_at m.rules t
 
   abbrev texts : List Page → List ℕ
-  texts pages = listing m.text_of pages
+  texts pages = listing m.page_format pages
 
   abbrev all_pages : List Page
   all_pages = readable_pages f requests
@@ -49,13 +50,21 @@ module _ (m : ListFormat) (t : Told) (parts : List Part) (b a : ObservedState) (
   stop_here e here all =
       first_stop-length f requests ∙ ap (slice_get requests) (sym all) ∙ here
 
+  -- so these are their sums
+  pub sums_all : length lists.answer.pages ≡ length all_pages
+      → lists.sums ≡ sums_of m.page_format all_pages
+  sums_all all =
+      lists.answer.sums_are
+      ∙ ap (sums_of m.page_format)
+      (sym (all_given f requests lists.answer.pages lists.answer.answers.first all))
+
   pub text_begins : SinkGrewByPrefix b.written a.written lists.text
       → SinkGrewByPrefix b.written a.written (texts all_pages)
   text_begins grew =
       let rest = lists.answer.answers.first.0 in
       let same : lists.text ++ texts rest ≡ texts all_pages =
       ap (λ (l : List ℕ). l ++ texts rest) lists.answer.text_is
-      ∙ sym (listing-append m.text_of lists.answer.pages rest)
+      ∙ sym (listing-append m.page_format lists.answer.pages rest)
       ∙ ap texts (sym lists.answer.answers.first.1) in
       SinkGrewByPrefix-same b.written a.written _ _ same
       (SinkGrewByPrefix-more b.written a.written lists.text (texts rest) grew)
@@ -81,15 +90,15 @@ module _ (m : ListFormat) (t : Told) (parts : List Part) (b a : ObservedState) (
       ≡ Some (request r k)
       → SinkGrew b.written a.written lists.text
       → (run : SynchronousRun) → run.requests ≡ requests → run.pages ≡ all_pages
-      → run.text_of ≡ m.text_of → IsCutAt run b.written a.written r k
+      → run.format ≡ m.page_format → IsCutAt run b.written a.written r k
   cut_at r k here grew run requests_are pages_are text_is =
       let P : List Request → Type 0 =
       λ l. slice_get l (length lists.answer.pages) ≡ Some (request r k) in
       let Q : List Page → Type 0 = λ l. length lists.answer.pages ≤ length l in
       let R : List Page → Type 0 = λ l. SinkGrew b.written a.written
       (texts (take (length lists.answer.pages) l)) in
-      let T : TextOf → Type 0 = λ text_of. SinkGrew b.written a.written
-      (listing text_of (take (length lists.answer.pages) run.pages)) in record {
+      let T : PageFormat → Type 0 = λ format. SinkGrew b.written a.written
+      (listing format (take (length lists.answer.pages) run.pages)) in record {
         k = length lists.answer.pages;
         named_block_is = subst P (sym requests_are) here;
         pages_within = subst Q (sym pages_are) among;
@@ -119,32 +128,32 @@ module _ (m : ListFormat) (t : Told) (parts : List Part) (b a : ObservedState) (
 
   -- the output stopped behind them
   stopped_among : is_output_cut_off o ≡ true
-      → StoppedBehind m.text_of parts all_pages b.written a.written o lists.whole
+      → StoppedBehind m.page_format parts all_pages b.written a.written o lists.whole
   stopped_among is =
       let pages = lists.answer.pages in
       let rest = lists.answer.answers.first.0 in
       let P : List Page → Type 0 =
-      λ l. StoppedBehind m.text_of parts l b.written a.written o lists.whole in
+      λ l. StoppedBehind m.page_format parts l b.written a.written o lists.whole in
       subst P (sym lists.answer.answers.first.1)
-      (stopped_by m.text_of m.text_of parts parts pages (pages ++ rest) b.written b.written
+      (stopped_by m.page_format m.page_format parts parts pages (pages ++ rest) b.written b.written
       a.written a.written o lists.whole lists.whole
-      (cut_of_more m.text_of parts pages rest b.written a.written lists.whole lists.pages_within)
-      (whole_of_more m.text_of parts pages rest b.written a.written lists.whole lists.pages_within)
+      (cut_of_more m.page_format parts pages rest b.written a.written lists.whole lists.pages_within)
+      (whole_of_more m.page_format parts pages rest b.written a.written lists.whole lists.pages_within)
       (lists.stopped_behind is))
 
-  pub warned_up_to : (run : SynchronousRun) → run.pages ≡ all_pages → run.text_of ≡ m.text_of
+  pub warned_up_to : (run : SynchronousRun) → run.pages ≡ all_pages → run.format ≡ m.page_format
       → is_output_cut_off o ≡ true → IsWarnedUpTo run parts b.written a.written o w
   warned_up_to run pages_are text_is is =
       let few = among in
       let within = lists.pages_within in
       let Q : List Page → Type 0 = λ l. lists.whole ≤ length l in
-      let R : List Page → Type 0 = λ l. StoppedBehind m.text_of parts l b.written a.written o
+      let R : List Page → Type 0 = λ l. StoppedBehind m.page_format parts l b.written a.written o
       lists.whole in
-      let T : TextOf → Type 0 = λ text_of. StoppedBehind text_of parts run.pages b.written
+      let T : PageFormat → Type 0 = λ format. StoppedBehind format parts run.pages b.written
       a.written o lists.whole in record {
         k = lists.whole;
         pages_within = subst Q (sym pages_are) (omega arith);
-        stopped_behind = subst T (sym text_is) (subst R (sym pages_are) (stopped_among is));
+        stopped_behind = inl (subst T (sym text_is) (subst R (sym pages_are) (stopped_among is)));
         warnings_are = lists.warnings_are ∙ ap warnings_of
             (whole_pages ∙ ap (take lists.whole) (sym pages_are));
       }

@@ -1,6 +1,7 @@
 -- What the top call promises over a shelf that tells, from how the run ended.
 use Rattle.std.proofs.Common.{◌≡◌, ◌≢◌, ℕ, List, length, refl, true}
-use Rattle.std.specs.Prelude.{Bool, Option, Some, None, IfSome}
+use Rattle.std.specs.Prelude.{Option, Some, None, IfSome}
+use Rattle.page_check.specs.declared.rules.DamagedPages.{DamagedPages}
 use Rattle.page_check.specs.Told.{Told}
 use Rattle.aio_disk.specs.Counts.{ShelfCounts}
 use Rattle.aio_disk.specs.Shelf.{Files, shelf_told}
@@ -14,7 +15,7 @@ use Rattle.run_report.specs.Causes.{HasCauses, NamesFirstTooLong, IsComplete}
 use Rattle.run_report.specs.declared.report.Outcome.{Outcome}
 use Rattle.run_report.specs.declared.report.Outcome.TheVariants.{Usage}
 use Rattle.run_report.proofs.ExactOutcomes.{exact, complete}
-use Rattle.run_report.proofs.FileRunsOverTold.{writes, is_warned, untouched_same}
+use Rattle.run_report.proofs.ConcludedRuns.{file_writes, file_warned, file_fits, file_untouched}
 use Rattle.run_report.proofs.GeneratedRuns.{generated_not_refused}
 
 -- over a shelf that tells, what holds of each run holds of this one
@@ -28,17 +29,17 @@ told_by (Some t) c b a o w P each ran = each t ran
 on_source : (files : Option Files) (c : Command) (generated : Option ℕ)
     (b a : ObservedState) (o : Outcome) (w : List ℕ) (P : SynchronousRun → Type 0)
     → ((t : Told) → IsFileRun (Some t) (length (command_relations c)) c b a o w → P (file_run t c))
-    → ((z : Bool) (n : ℕ) → IsGeneratedRun z n b a o w → P (generated_run z n))
+    → ((z : DamagedPages) (n : ℕ) → IsGeneratedRun z n b a o w → P (generated_run z n))
     → IsSourceRun files c generated b a o w → HoldsForSource files c generated P
 on_source files c None b a o w P each each_made ran =
     told_by (shelf_told files (command_relations c)) c b a o w P each ran
-on_source files c (Some n) b a o w P each each_made ran = each_made c.settings.zero n ran
+on_source files c (Some n) b a o w P each each_made ran = each_made c.settings.damaged n ran
 
 pub on_told : (files : Option Files) (command : Option Command) (b a : ObservedState) (o : Outcome)
     (w : List ℕ) (P : SynchronousRun → Type 0)
     → ((t : Told) (c : Command) → command ≡ Some c
     → IsFileRun (Some t) (length (command_relations c)) c b a o w → P (file_run t c))
-    → ((z : Bool) (n : ℕ) → command ≢ None → IsGeneratedRun z n b a o w → P (generated_run z n))
+    → ((z : DamagedPages) (n : ℕ) → command ≢ None → IsGeneratedRun z n b a o w → P (generated_run z n))
     → IsCommandRun files command b a o w → HoldsForRun files command P
 on_told files None b a o w P each each_made ran = tt
 on_told files (Some c) b a o w P each each_made ran =
@@ -55,19 +56,20 @@ module _ (files : Option Files) (command : Option Command) (b a : ObservedState)
   pub told_writes : HoldsForRun files command (λ run. RunWrites run b.written a.written o)
   told_writes =
       on_told files command b a o w (λ run. RunWrites run b.written a.written o)
-      (λ t c some r. writes t (length (command_relations c)) c b a o w r)
+      (λ t c some r. file_writes t (length (command_relations c)) c b a o w r)
       (λ z n some r. r.writes) ran
 
   pub told_warned : HoldsForRun files command (λ run. IsWarned run b.written a.written o w)
   told_warned =
       on_told files command b a o w (λ run. IsWarned run b.written a.written o w)
-      (λ t c some r. is_warned t (length (command_relations c)) c b a o w r)
+      (λ t c some r. file_warned t (length (command_relations c)) c b a o w r)
       (λ z n some r. r.warnings_are) ran
 
   pub told_exact : HoldsForRun files command (λ run. NamesFirstTooLong run o)
   told_exact =
       on_told files command b a o w (λ run. NamesFirstTooLong run o)
-      (λ t c some r. exact (file_run t c) o r.in_order)
+      (λ t c some r. exact (file_run t c) o
+      (file_fits t (length (command_relations c)) c b a o w r))
       (λ z n some r. exact (generated_run z n) o r.in_order) ran
 
   pub told_complete : (before now : ShelfCounts) (wb wn : ℕ) → (o ≡ Usage → command ≡ None)
@@ -77,8 +79,9 @@ module _ (files : Option Files) (command : Option Command) (b a : ObservedState)
       on_told files command b a o w (λ run. IsComplete run before now wb wn o)
       (λ t c some r.
       complete (file_run t c) before now wb wn b.written a.written o
-      (not_usage command c o usage some) causes r.in_order
-      (writes t (length (command_relations c)) c b a o w r))
+      (not_usage command c o usage some) causes
+      (file_fits t (length (command_relations c)) c b a o w r)
+      (file_writes t (length (command_relations c)) c b a o w r))
       (λ z n some r.
       complete (generated_run z n) before now wb wn b.written a.written o
       (λ is. some (usage is)) causes r.in_order r.writes) ran
@@ -87,7 +90,7 @@ untouched_by : (files : Option Files) (c : Command) (generated : Option ℕ)
     (b a : ObservedState) (o : Outcome)
     (w : List ℕ) → IsSourceRun files c generated b a o w
     → is_refused o ≡ true → a.written ≡ b.written
-untouched_by files c None b a o w ran refused = untouched_same b a (ran.output_same refused).0
+untouched_by files c None b a o w ran refused = file_untouched _ (length (command_relations c)) c b a o w ran refused
 untouched_by files c (Some n) b a o w ran refused =
     absurd (let begun = generated_not_refused o ran.ends in cc)
 

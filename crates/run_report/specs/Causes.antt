@@ -4,7 +4,8 @@ use Rattle.page_check.specs.Told.{Told}
 use Rattle.aio_disk.specs.Counts.{CountRose, ShelfCounts}
 use Rattle.request_list.specs.RemainingRequests.{resolved_request_parts}
 use Rattle.run_report.specs.Outcomes.{is_refused}
-use Rattle.run_report.specs.Output.{IsOutput, command_format}
+use Rattle.run_report.specs.Sums.{HasListed}
+use Rattle.heap_scan.specs.declared.sums.PageSums.{PageSums}
 use Rattle.run_report.specs.Run.{SynchronousRun, EarlierFit}
 use Rattle.request_list.specs.declared.cutter.ResolvedCommand.{ResolvedCommand}
 use Rattle.run_report.specs.declared.report.Outcome.{Outcome}
@@ -33,12 +34,12 @@ pub record HasCauses (before now : ShelfCounts) (write_faults_before write_fault
 -- reads: a disk that could not be opened is the only refusal
 pub record ScanHasOutcome (asked : ResolvedCommand) (given : ℕ → List ℕ) (told : Option Told)
     (written now_written : Option (List ℕ)) (before now : ShelfCounts) (faults reads : ℕ)
-    (outcome : Outcome) (warnings : List ℕ) : Type 0 where
+    (outcome : Outcome) (sums : PageSums) (warnings : List ℕ) : Type 0 where
   pub opens : before.open_faults ≤ now.open_faults
   pub others : (now.length_faults ≡ before.length_faults) × (now.faults ≡ before.faults)
       × (now.reads ≡ before.reads)
-  pub lists : outcome ≢ CannotOpen → IsOutput (command_format asked.command.now) told
-      (resolved_request_parts asked told given) written now_written outcome warnings
+  pub lists : outcome ≢ CannotOpen → HasListed asked.command.now told
+      (resolved_request_parts asked told given) written now_written outcome sums warnings
   pub cannot_open : outcome ≡ CannotOpen → CountRose before.open_faults now.open_faults
       × (now_written ≡ written) × (faults ≡ 0) × (reads ≡ 0) × (warnings ≡ [])
   pub unread : (r b : ℕ) → outcome ≡ Unread r b → 0 < faults

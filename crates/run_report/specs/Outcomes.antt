@@ -9,9 +9,11 @@ use Rattle.run_report.specs.declared.report.Outcome.{Outcome}
 use Rattle.run_report.specs.declared.report.Outcome.TheVariants.{Done, Invalid, Usage, CannotOpen}
 use Rattle.run_report.specs.declared.report.Outcome.TheVariants.{NoLength, Unread, CannotWrite}
 use Rattle.run_report.specs.declared.report.Outcome.TheVariants.{NoMemory, Missing, TooLong}
+use Rattle.run_report.specs.declared.report.Outcome.TheVariants.{FaultsFound}
 
 abbrev pub status_of : Outcome → ℕ
 status_of Done = 0
+status_of FaultsFound = 1
 status_of (Invalid r b) = 1
 status_of Usage = 2
 status_of CannotOpen = 3
@@ -25,6 +27,7 @@ status_of (TooLong r) = 7
 -- the line on the error stream; none where all was listed
 abbrev pub outcome_line : Outcome → List ℕ
 outcome_line Done = []
+outcome_line FaultsFound = []
 outcome_line (Invalid r b) =
     concat (codes "invalid page " ∷ decimal r ∷ codes " " ∷ decimal b ∷ codes "\n" ∷ [])
 outcome_line Usage = codes "usage: aioscan [options] FILE...\n"
@@ -46,6 +49,16 @@ is_refused (NoLength r) = true
 is_refused (TooLong r) = true
 is_refused _ = false
 
+-- a listing may end so; a fault is found behind it
+abbrev pub can_end_listing : Outcome → Bool
+can_end_listing Done = true
+can_end_listing (Invalid r b) = true
+can_end_listing (Missing r b) = true
+can_end_listing (Unread r b) = true
+can_end_listing CannotWrite = true
+can_end_listing NoMemory = true
+can_end_listing _ = false
+
 -- a text may not have been written whole
 abbrev pub is_output_cut_off : Outcome → Bool
 is_output_cut_off CannotWrite = true
@@ -55,6 +68,7 @@ is_output_cut_off _ = false
 -- the run was not refused and found memory: with `--stats` its totals are told
 abbrev pub has_totals : Outcome → Bool
 has_totals Done = true
+has_totals FaultsFound = true
 has_totals (Invalid r b) = true
 has_totals (Unread r b) = true
 has_totals CannotWrite = true

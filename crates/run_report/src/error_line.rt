@@ -16,7 +16,7 @@ fn fixed_line(outcome: Outcome) -> Option<&'static str>
     ensures numbers { IsNone result → HasNumbers outcome }
 {
     match outcome {
-        Outcome::Done => Some(""),
+        Outcome::Done | Outcome::FaultsFound => Some(""),
         Outcome::Usage => Some("usage: aioscan [options] FILE...\n"),
         Outcome::CannotOpen => Some("cannot open\n"),
         Outcome::CannotWrite => Some("cannot write\n"),

@@ -11,7 +11,9 @@ use heap_scan::PageSums;
 pub enum Outcome {
     /// All was listed: status 0.
     Done,
-    /// Page (R, B) is neither zeros nor sane: status 1.
+    /// All was listed, and of some page a fault was told: status 1.
+    FaultsFound,
+    /// Page (R, B) is not valid, and nothing is listed of it: status 1.
     Invalid(u32, u32),
     /// The words are no command: status 2.
     Usage,
@@ -94,6 +96,7 @@ impl RunEnd {
                 pages: 0,
                 zero: 0,
                 items: 0,
+                faults: 0,
             },
         }
     }
@@ -112,6 +115,7 @@ pub fn has_totals(outcome: Outcome) -> bool
 {
     match outcome {
         Outcome::Done
+        | Outcome::FaultsFound
         | Outcome::Invalid(_, _)
         | Outcome::Unread(_, _)
         | Outcome::CannotWrite

@@ -2,7 +2,7 @@
 use Rattle.std.proofs.Common.{◌≡◌, ◌≢◌, ◌⊎◌, ℕ, ◌+◌, ◌<◌, ◌≤◌, List, [], ◌∷◌, ◌++◌}
 use Rattle.std.proofs.Common.{length, map, take, drop, sym, ap, subst, ◌∙◌, inl, inr, arith}
 use Rattle.std.proofs.Common.{append-nil, length-append, length-drop}
-use Rattle.std.specs.Prelude.{Bool}
+use Rattle.page_check.specs.declared.rules.PageRules.{PageRules}
 use Rattle.std.proofs.lemmas.List.{length-map, length-take-le}
 use Rattle.std.proofs.lemmas.List.{take-map, drop-map}
 use Rattle.std.proofs.lemmas.List.Elements.{All-take, All-drop}
@@ -54,12 +54,12 @@ module _ {P : Type 0} where
   first_front : (found : Reading) (xs ys : List (Entry P)) (pages : List (Given P))
       → length xs ≤ length pages → AreFirst found (xs ++ ys) pages
       → AreFirst found xs (take (length xs) pages)
-  first_front (Unknown checksums) xs ys pages far first =
+  first_front (Unknown rules) xs ys pages far first =
       let n = length xs in
       let es : List (Entry P) = map (λ (g : Given P). g.entry) pages in
       let same = front_taken xs ys es first.1.0 first.1.1
       (omega (arith, length-map pages (λ (g : Given P). g.entry))) in (
-        All-take (IsGiven checksums) n pages first.0,
+        All-take (IsGiven rules) n pages first.0,
         ([], same ∙ take-map (λ (g : Given P). g.entry) n pages ∙ sym (append-nil _)),
       )
   first_front (Known f) xs ys pages far first =
@@ -72,7 +72,7 @@ module _ {P : Type 0} where
   end_front : (found : Reading) (xs ys : List (Entry P)) (pages : List (Given P))
       → length xs ≤ length pages → AreFirst found (xs ++ ys) pages
       → EndsAt found xs (length (take (length xs) pages)) End
-  end_front (Unknown checksums) xs ys pages far first = length-take-le (length xs) pages far
+  end_front (Unknown rules) xs ys pages far first = length-take-le (length xs) pages far
   end_front (Known f) xs ys pages far first =
       let end = whole_before f xs ys pages first far in
       (length-take-le (length xs) pages far ∙ sym (whole f xs ys end).all, end)
@@ -91,12 +91,12 @@ module _ {P : Type 0} where
   first_back : (found : Reading) (xs ys : List (Entry P)) (pages : List (Given P))
       → length xs ≤ length pages → AreFirst found (xs ++ ys) pages
       → AreFirst found ys (drop (length xs) pages)
-  first_back (Unknown checksums) xs ys pages far first =
+  first_back (Unknown rules) xs ys pages far first =
       let n = length xs in
       let es : List (Entry P) = map (λ (g : Given P). g.entry) pages in
       let same = back_dropped xs ys es first.1.0 first.1.1
       (omega (arith, length-map pages (λ (g : Given P). g.entry))) in (
-        All-drop (IsGiven checksums) n pages first.0,
+        All-drop (IsGiven rules) n pages first.0,
         (
           first.1.0,
           same ∙ ap (λ (l : List (Entry P)). l ++ first.1.0)
@@ -136,18 +136,18 @@ module _ {P : Type 0} where
       )
 
   -- and where nothing is told
-  ends_back_untold : (checksums : Bool) (xs ys : List (Entry P)) (k : ℕ) (end : Ending)
-      → EndsAt (Unknown checksums) (xs ++ ys) (length xs + k) end → EndsAt (Unknown checksums) ys k end
-  ends_back_untold checksums xs ys k End ends = omega (arith, ends, length-append xs ys)
-  ends_back_untold checksums xs ys k (Invalid b) ends = stops_back _ xs ys k b ends
-  ends_back_untold checksums xs ys k (PastEnd b) ends = stops_back _ xs ys k b ends
-  ends_back_untold checksums xs ys k (Unread b) ends = absurd ends
+  ends_back_untold : (rules : PageRules) (xs ys : List (Entry P)) (k : ℕ) (end : Ending)
+      → EndsAt (Unknown rules) (xs ++ ys) (length xs + k) end → EndsAt (Unknown rules) ys k end
+  ends_back_untold rules xs ys k End ends = omega (arith, ends, length-append xs ys)
+  ends_back_untold rules xs ys k (Invalid b) ends = stops_back _ xs ys k b ends
+  ends_back_untold rules xs ys k (PastEnd b) ends = stops_back _ xs ys k b ends
+  ends_back_untold rules xs ys k (Unread b) ends = absurd ends
 
   -- and in either case
   ends_back : (found : Reading) (xs ys : List (Entry P)) (pages : List (Given P)) (k : ℕ)
       (end : Ending) → length xs ≤ length pages → AreFirst found (xs ++ ys) pages
       → EndsAt found (xs ++ ys) (length xs + k) end → EndsAt found ys k end
-  ends_back (Unknown checksums) xs ys pages k end far first ends = ends_back_untold checksums xs ys k end ends
+  ends_back (Unknown rules) xs ys pages k end far first ends = ends_back_untold rules xs ys k end ends
   ends_back (Known f) xs ys pages k end far first ends =
       ends_back_told f xs ys k end (whole_before f xs ys pages first far) ends
 
@@ -190,7 +190,7 @@ module _ {P : Type 0} where
   -- fewer pages than the first list has entries are pages of it
   first_within : (found : Reading) (xs ys : List (Entry P)) (pages : List (Given P))
       → length pages < length xs → AreFirst found (xs ++ ys) pages → AreFirst found xs pages
-  first_within (Unknown checksums) xs ys pages short first = (
+  first_within (Unknown rules) xs ys pages short first = (
     first.0,
     begins_front (map (λ (g : Given P). g.entry) pages) xs ys first.1
         (omega (arith, length-map pages (λ (g : Given P). g.entry))),
@@ -226,18 +226,18 @@ module _ {P : Type 0} where
   ]
 
   -- and where nothing is told
-  ends_within_untold : (checksums : Bool) (xs ys : List (Entry P)) (k : ℕ) (end : Ending) → k < length xs
-      → EndsAt (Unknown checksums) (xs ++ ys) k end → EndsAt (Unknown checksums) xs k end
-  ends_within_untold checksums xs ys k End below ends =
+  ends_within_untold : (rules : PageRules) (xs ys : List (Entry P)) (k : ℕ) (end : Ending) → k < length xs
+      → EndsAt (Unknown rules) (xs ++ ys) k end → EndsAt (Unknown rules) xs k end
+  ends_within_untold rules xs ys k End below ends =
       absurd (omega (arith, below, ends, length-append xs ys))
-  ends_within_untold checksums xs ys k (Invalid b) below ends = stops_within _ xs ys k b below ends
-  ends_within_untold checksums xs ys k (PastEnd b) below ends = stops_within _ xs ys k b below ends
-  ends_within_untold checksums xs ys k (Unread b) below ends = absurd ends
+  ends_within_untold rules xs ys k (Invalid b) below ends = stops_within _ xs ys k b below ends
+  ends_within_untold rules xs ys k (PastEnd b) below ends = stops_within _ xs ys k b below ends
+  ends_within_untold rules xs ys k (Unread b) below ends = absurd ends
 
   -- and in either case
   ends_within : (found : Reading) (xs ys : List (Entry P)) (k : ℕ) (end : Ending)
       → k < length xs → EndsAt found (xs ++ ys) k end → EndsAt found xs k end
-  ends_within (Unknown checksums) xs ys k end below ends = ends_within_untold checksums xs ys k end below ends
+  ends_within (Unknown rules) xs ys k end below ends = ends_within_untold rules xs ys k end below ends
   ends_within (Known f) xs ys k end below ends = ends_within_told f xs ys k end below ends
 
   -- an ending of both lists that stands in the first is one of it

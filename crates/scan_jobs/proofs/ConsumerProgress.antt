@@ -1,26 +1,29 @@
 -- The pages that a consumer has taken so far, and what comes of the next answer.
-use Rattle.std.proofs.Common.{◌≡◌, ℕ, ◌+◌, ◌<◌, ◌≤◌, Bool, true, false, List, [], ◌∷◌, ◌++◌, length}
+use Rattle.std.proofs.Common.{◌≡◌, ◌≢◌, ℕ, ◌+◌, ◌<◌, ◌≤◌, List, [], ◌∷◌, ◌++◌, length}
 use Rattle.std.proofs.Common.{refl, sym, ap, ◌∙◌, subst, arith, length-append}
 use Rattle.std.specs.Prelude.{Option, Some, None, ⊤}
 use Rattle.std.specs.List.{All}
 use Rattle.std.proofs.lemmas.List.Elements.{All-push, All-nil}
 use Rattle.page_check.specs.Told.{Told}
 use Rattle.page_check.specs.declared.rules.PageRules.{PageRules}
-use Rattle.page_check.specs.Verdict.{IsValid}
+use Rattle.page_check.specs.declared.rules.DamagedPages.{DamagedPages}
+use Rattle.page_check.specs.declared.rules.DamagedPages.TheVariants as damaged_pages
+use Rattle.page_check.specs.declared.rules.PageMark.{PageMark}
+use Rattle.page_check.specs.declared.rules.PageMark.TheVariants.{Valid, Zeroed, Damaged}
 use Rattle.page_check.specs.SynchronousAnswer.{reading_of, Ending as SaidEnding, End, Invalid}
-use Rattle.page_check.specs.SynchronousAnswer.{PastEnd, Unread}
-use Rattle.page_check.specs.IsAnswer.{Next as Said, Page, Stop, IsAnswer, IsNext, IfPage}
+use Rattle.page_check.specs.SynchronousAnswer.{PastEnd, Unread, AllowsMark}
+use Rattle.page_check.specs.IsAnswer.{Next as Said, Page, Stop, IsAnswer, IsNext, IfGiven}
 use Rattle.page_check.proofs.AnswersInOrder.{answered_none, answered_next}
-use Rattle.stream_answer.specs.StreamAnswers.{pages_given, IfZeroed}
+use Rattle.stream_answer.specs.StreamAnswers.{pages_given}
 use Rattle.scan_jobs.specs.Jobs.{answered_ending, job_ending}
 use Rattle.scan_jobs.specs.ConsumedPages.{PagesPredicate, PagesConsumed, StillHolds}
 use Rattle.scan_jobs.specs.ConsumedPages.{AnswerConsumed}
 use Rattle.scan_jobs.specs.declared.job.Ending.{Ending}
-use Rattle.stream_answer.proofs.AnswerPages.{first_valid, page_within, page_anyway, pages_anyway}
+use Rattle.stream_answer.proofs.AnswerPages.{page_within, page_anyway, pages_anyway}
 use Rattle.scan_jobs.proofs.UnitEntries.{E, G}
 
-abbrev pub AreUnzeroed : Bool → List G → Type 0
-AreUnzeroed on pages = on ≡ false → All (λ g. g.zeroed ≡ false) pages
+abbrev pub AreUnzeroed : DamagedPages → List G → Type 0
+AreUnzeroed damaged pages = damaged ≢ damaged_pages.Zero → All (λ g. g.mark ≢ Zeroed) pages
 
 -- this many pages, which are the first answers, were taken
 pub record SoFar (holds : PagesPredicate) (rules : PageRules) (told : Option Told) (entries : List E)
@@ -28,7 +31,7 @@ pub record SoFar (holds : PagesPredicate) (rules : PageRules) (told : Option Tol
   pub pages : List G
   pub count : length pages ≡ given
   pub held : holds pages
-  pub none_zeroed : AreUnzeroed rules.zero pages
+  pub none_zeroed : AreUnzeroed rules.damaged pages
   pub answers : IsAnswer (reading_of rules told) (λ _. ⊤) entries
       (record { pages = pages; endings = [] })
 
@@ -38,28 +41,28 @@ nothing_yet holds rules told entries given none held = record {
   pages = [];
   count = sym none;
   held = held;
-  none_zeroed = λ off. All-nil (λ g. g.zeroed ≡ false);
+  none_zeroed = λ off. All-nil (λ g. g.mark ≢ Zeroed);
   answers = answered_none (reading_of rules told) (λ _. ⊤) entries;
 }
 
--- there is room for the next page, and it is valid
+-- there is room for the next page
 pub next_room : (holds : PagesPredicate) (rules : PageRules) (told : Option Told) (may : E → Type 0)
     (entries : List E) (given most : ℕ) (next : Said (Unit {0})) → length entries ≤ most
     → SoFar holds rules told entries given → IsNext (reading_of rules told) may entries given next
-    → IfPage next (λ _. (pages : List G) × holds pages × All (λ g. IsValid g.page) pages
-    × (length pages < most))
+    → IfGiven next (λ _. (pages : List G) × holds pages × (length pages < most))
 next_room holds rules told may entries given most (Stop end) few so_far is = tt
 next_room holds rules told may entries given most (Page g) few so_far is =
     let within = page_within (reading_of rules told) may entries given g is in (
       so_far.pages,
       so_far.held,
-      first_valid rules told entries so_far.pages so_far.answers.first,
       omega (arith, so_far.count),
     )
 
-not_zeroed : (on b : Bool) → (b ≡ true → on ≡ true) → on ≡ false → b ≡ false
-not_zeroed on false told off = refl
-not_zeroed on true told off = (let is = told refl in absurd (cc))
+not_zeroed : (damaged : DamagedPages) (mark : PageMark) → AllowsMark damaged mark
+    → damaged ≢ damaged_pages.Zero → mark ≢ Zeroed
+not_zeroed damaged Valid allowed off = λ is. absurd (cc)
+not_zeroed damaged Zeroed allowed off = absurd (off allowed)
+not_zeroed damaged Damaged allowed off = λ is. absurd (cc)
 
 end_said : (end : SaidEnding) → answered_ending (job_ending end) ≡ Some end
 end_said End = refl
@@ -70,10 +73,11 @@ end_said (Unread b) = refl
 module _ (was now : PagesPredicate) (rules : PageRules) (told : Option Told) (may : E → Type 0)
     (entries : List E) (given : ℕ) (next : Said (Unit {0})) (result : Option Ending) where
   taken_on : (said : Said (Unit {0})) → SoFar was rules told entries given
-      → IsNext (reading_of rules told) may entries given said → IfZeroed said (rules.zero ≡ true)
+      → IsNext (reading_of rules told) may entries given said
+      → IfGiven said (λ g. AllowsMark rules.damaged g.mark)
       → AnswerConsumed was now said None → SoFar now rules told entries (given + pages_given said)
-  taken_on (Stop end) so_far is zeroed takes = absurd (cc)
-  taken_on (Page g) so_far is zeroed takes =
+  taken_on (Stop end) so_far is allowed takes = absurd (cc)
+  taken_on (Page g) so_far is allowed takes =
       let found = reading_of rules told in
       let P : ℕ → Type 0 = λ n. IsNext found may entries n (Page g) in
       let here = page_anyway found may entries (length so_far.pages) g
@@ -81,8 +85,8 @@ module _ (was now : PagesPredicate) (rules : PageRules) (told : Option Told) (ma
         pages = so_far.pages ++ g ∷ [];
         count = omega (arith, length-append so_far.pages (g ∷ []), so_far.count);
         held = takes so_far.pages so_far.held;
-        none_zeroed = λ off. All-push (λ x. x.zeroed ≡ false) so_far.pages g
-            (so_far.none_zeroed off) (not_zeroed rules.zero g.zeroed zeroed off);
+        none_zeroed = λ off. All-push (λ x. x.mark ≢ Zeroed) so_far.pages g
+            (so_far.none_zeroed off) (not_zeroed rules.damaged g.mark allowed off);
         answers =
             answered_next found (λ _. ⊤) entries so_far.pages (Page g) so_far.answers here;
       }
@@ -94,12 +98,13 @@ module _ (was now : PagesPredicate) (rules : PageRules) (told : Option Told) (ma
 
   -- the answer was taken, and there are more
   pub taken_more : (given' : ℕ) → SoFar was rules told entries given
-      → IsNext (reading_of rules told) may entries given next → IfZeroed next (rules.zero ≡ true)
+      → IsNext (reading_of rules told) may entries given next
+      → IfGiven next (λ g. AllowsMark rules.damaged g.mark)
       → AnswerConsumed was now next result → result ≡ None → given' ≡ given + pages_given next
       → SoFar now rules told entries given'
-  taken_more given' so_far is zeroed takes none count =
+  taken_more given' so_far is allowed takes none count =
       subst (λ (n : ℕ). SoFar now rules told entries n) (sym count)
-      (taken_on next so_far is zeroed
+      (taken_on next so_far is allowed
       (subst (λ (x : Option Ending). AnswerConsumed was now next x) none takes))
 
   pub nearer : (given' : ℕ) → IsNext (reading_of rules told) may entries given next

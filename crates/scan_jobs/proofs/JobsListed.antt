@@ -1,7 +1,7 @@
 -- What has become of jobs whose pages were taken.
 use mathlib.Core.Logic.{dite}
 use native.Mathlib.Decide.{dec_le}
-use Rattle.std.proofs.Common.{◌≡◌, ℕ, zero, suc, ◌-◌, ◌≤◌, true, false, List, [], ◌∷◌}
+use Rattle.std.proofs.Common.{◌≡◌, ◌≢◌, ℕ, zero, suc, ◌-◌, ◌≤◌, true, false, List, [], ◌∷◌}
 use Rattle.std.proofs.Common.{◌++◌, length, map, take, drop, refl, sym, ap, ◌∙◌, subst, arith, cond}
 use Rattle.std.proofs.Common.{append-nil, length-drop, nat_le}
 use Rattle.std.specs.Prelude.{Option}
@@ -10,14 +10,16 @@ use Rattle.std.proofs.lemmas.List.{take_all, drop_all}
 use Rattle.std.proofs.lemmas.Bool.Decides.{nat_tests}
 use Rattle.std.proofs.lemmas.List.Elements.{All-head, All-tail, All-take, All-drop, All-nil}
 use Rattle.std.proofs.lemmas.List.Sums.{sum_by-cons}
+use Rattle.page_check.specs.declared.rules.DamagedPages.TheVariants as damaged_pages
+use Rattle.page_check.specs.declared.rules.PageMark.TheVariants.{Zeroed}
 use Rattle.page_check.specs.Told.{Told}
 use Rattle.page_check.specs.SynchronousAnswer.{reading_of}
 use Rattle.page_check.specs.IsAnswer.{IsAnswer}
 use Rattle.page_check.proofs.AnswersInOrder.{answered_none}
 use Rattle.heap_scan.specs.Job.{endings_of}
-use Rattle.heap_scan.specs.Listing.{TextOf}
+use Rattle.heap_scan.specs.Listing.{PageFormat}
 use Rattle.heap_scan.specs.Warnings.{warnings_of}
-use Rattle.heap_tuple.specs.Listing.{text_with}
+use Rattle.scan_settings.specs.PageFormats.{page_format}
 use Rattle.scan_jobs.specs.BlockFilter.{BlockFilter}
 use Rattle.scan_jobs.specs.ConsumedPages.{JobHasOutput, JobsHaveOutput}
 use Rattle.scan_jobs.specs.Jobs.{AreWholeButLast, JobIsListed, JobOutline, answered_ending}
@@ -32,7 +34,7 @@ use Rattle.scan_jobs.proofs.OutputOfPages.{no_text, unwarned}
 use Rattle.scan_jobs.proofs.UnitEntries.{E, G}
 
 -- pages that were not zeroed have no warnings
-pub none_warned : (pages : List G) → All (λ g. g.zeroed ≡ false) pages → warnings_of pages ≡ []
+pub none_warned : (pages : List G) → All (λ g. g.mark ≢ Zeroed) pages → warnings_of pages ≡ []
 unfolding warnings_of
 none_warned [] all = refl
 none_warned (g ∷ pages) all =
@@ -50,9 +52,10 @@ drop_none (suc n) = refl
 abbrev pub NotEnded : Job → Type 0
 NotEnded j = j.ending ≡ ending.Pages
 
-ended_has : (text_of : TextOf) (l : Job) (end : Ending) (pages : List G)
-    → JobHasOutput text_of l pages → JobHasOutput text_of (ended_job end l) pages
-ended_has text_of l end pages has = record {
+ended_has : (format : PageFormat) (l : Job) (end : Ending) (pages : List G)
+    → JobHasOutput format l pages → JobHasOutput format (ended_job end l) pages
+ended_has format l end pages has = record {
+  are_pages = has.are_pages;
   text_is = has.text_is;
   warnings_are = has.warnings_are;
   sums_are = has.sums_are;
@@ -90,20 +93,20 @@ one_unread_at_most (l ∷ m ∷ ls) taken end fresh =
     rw here (omega arith)))
 
 -- what the first job has, and the later ones, where none has pages
-first_and_later : {text_of : TextOf} (l : Job) (ls : List Job) → JobsHaveOutput text_of (l ∷ ls) []
-    → JobHasOutput text_of l [] × JobsHaveOutput text_of ls []
+first_and_later : {format : PageFormat} (l : Job) (ls : List Job) → JobsHaveOutput format (l ∷ ls) []
+    → JobHasOutput format l [] × JobsHaveOutput format ls []
 first_and_later l [] has = (has, refl)
-first_and_later {text_of} l (m ∷ ls) has = (
-  subst (JobHasOutput text_of l) (take_none l.count) has.0,
-  subst (JobsHaveOutput text_of (m ∷ ls)) (drop_none l.count) has.1,
+first_and_later {format} l (m ∷ ls) has = (
+  subst (JobHasOutput format l) (take_none l.count) has.0,
+  subst (JobsHaveOutput format (m ∷ ls)) (drop_none l.count) has.1,
 )
 
 module _ (block_filter : Option BlockFilter) (how : ListOptions) (told : Option Told)
     (may : E → Type 0) where
   -- a job that has these pages of its blocks, and ended so
   listed_one : (j l : Job) (end : Ending) (pages : List G) → job_outline l ≡ job_outline (ended_job end j)
-      → JobHasOutput (text_with how.tuples) l pages
-      → (how.rules.zero ≡ false → All (λ g. g.zeroed ≡ false) pages)
+      → JobHasOutput (page_format how.page_text) l pages
+      → (how.rules.damaged ≢ damaged_pages.Zero → All (λ g. g.mark ≢ Zeroed) pages)
       → IsAnswer (reading_of how.rules told) may (entries_of_job block_filter j)
       (record { pages = pages; endings = endings_of (answered_ending end) })
       → JobIsListed block_filter how told may j l
@@ -128,7 +131,7 @@ module _ (block_filter : Option BlockFilter) (how : ListOptions) (told : Option 
 
   -- jobs that had no pages
   pub none_listed : (js ls : List Job) → map job_outline ls ≡ map job_outline js
-      → JobsHaveOutput (text_with how.tuples) ls []
+      → JobsHaveOutput (page_format how.page_text) ls []
       → AllZip (JobIsListed block_filter how told may) js (map (ended_job ending.NoMemory) ls)
   none_listed [] [] same has = tt
   none_listed [] (l ∷ ls) same has = absurd (cc)
@@ -139,8 +142,8 @@ module _ (block_filter : Option BlockFilter) (how : ListOptions) (told : Option 
       let both = first_and_later l ls has in (
         listed_one j (ended_job ending.NoMemory l) ending.NoMemory []
             (ap (λ (o : JobOutline). record o { ending = ending.NoMemory }) head)
-            (ended_has (text_with how.tuples) l ending.NoMemory [] both.0)
-            (λ off. All-nil (λ g. g.zeroed ≡ false))
+            (ended_has (page_format how.page_text) l ending.NoMemory [] both.0)
+            (λ off. All-nil (λ g. g.mark ≢ Zeroed))
             (answered_none (reading_of how.rules told) may (entries_of_job block_filter j)),
         none_listed js ls tail both.1,
       )
@@ -148,8 +151,8 @@ module _ (block_filter : Option BlockFilter) (how : ListOptions) (told : Option 
   -- jobs that have taken these pages, which answer their blocks with this ending
   pub all_listed : (js ls : List Job) (pages : List G) (end : Ending)
       → map job_outline ls ≡ map job_outline js → All NotEnded js
-      → AreWholeButLast block_filter js → JobsHaveOutput (text_with how.tuples) ls pages
-      → (how.rules.zero ≡ false → All (λ g. g.zeroed ≡ false) pages)
+      → AreWholeButLast block_filter js → JobsHaveOutput (page_format how.page_text) ls pages
+      → (how.rules.damaged ≢ damaged_pages.Zero → All (λ g. g.mark ≢ Zeroed) pages)
       → IsAnswer (reading_of how.rules told) may (entries_of_jobs block_filter js)
       (record { pages = pages; endings = endings_of (answered_ending end) })
       → AllZip (JobIsListed block_filter how told may) js (ended_jobs ls (length pages) end)
@@ -162,7 +165,7 @@ module _ (block_filter : Option BlockFilter) (how : ListOptions) (told : Option 
       let head : job_outline l ≡ job_outline j = cc in (
         listed_one j (ended_job end l) end pages
             (ap (λ (o : JobOutline). record o { ending = end }) head)
-            (ended_has (text_with how.tuples) l end pages has) quiet
+            (ended_has (page_format how.page_text) l end pages has) quiet
             (subst (λ (es : List E). IsAnswer (reading_of how.rules told) may es
             (record { pages = pages; endings = endings_of (answered_ending end) }))
             (append-nil (entries_of_job block_filter j)) is),
@@ -184,12 +187,12 @@ module _ (block_filter : Option BlockFilter) (how : ListOptions) (told : Option 
         listed_one j l ending.Pages (take l.count pages)
             (head ∙ ap (λ (e : Ending). record (job_outline j) { ending = e })
             (All-head NotEnded j (k ∷ js) fresh))
-            has.0 (λ off. All-take (λ g. g.zeroed ≡ false) l.count pages (quiet off))
+            has.0 (λ off. All-take (λ g. g.mark ≢ Zeroed) l.count pages (quiet off))
             (subst (λ (n : ℕ). IsAnswer found may xs
             (record { pages = take n pages; endings = endings_of (answered_ending ending.Pages) }))
             many (answered_front found may xs ys pages endings (omega arith) is)),
         all_listed (k ∷ js) (m ∷ ls) (drop l.count pages) end tail later whole.1 has.1
-            (λ off. All-drop (λ g. g.zeroed ≡ false) l.count pages (quiet off))
+            (λ off. All-drop (λ g. g.mark ≢ Zeroed) l.count pages (quiet off))
             (subst (λ (n : ℕ). IsAnswer found may ys
             (record { pages = drop n pages; endings = endings })) many
             (answered_back found may xs ys pages endings (omega arith) is)),
@@ -201,25 +204,25 @@ module _ (block_filter : Option BlockFilter) (how : ListOptions) (told : Option 
       rw here (
         listed_one j (ended_job end l) end pages
             (ap (λ (o : JobOutline). record o { ending = end }) head)
-            (ended_has (text_with how.tuples) l end pages
-            (subst (JobHasOutput (text_with how.tuples) l) taken has.0)) quiet
+            (ended_has (page_format how.page_text) l end pages
+            (subst (JobHasOutput (page_format how.page_text) l) taken has.0)) quiet
             (answered_within found may xs ys pages endings (omega arith) is),
         none_listed (k ∷ js) (m ∷ ls) tail
-            (subst (JobsHaveOutput (text_with how.tuples) (m ∷ ls)) dropped has.1),
+            (subst (JobsHaveOutput (page_format how.page_text) (m ∷ ls)) dropped has.1),
       )))
 
 -- jobs that nobody has listed have no pages
-pub new_jobs_have_none : (text_of : TextOf) (relations : ℕ) (js : List Job)
-    → All (IsNewJob relations) js → JobsHaveOutput text_of js []
-new_jobs_have_none text_of relations [] fresh = refl
-new_jobs_have_none text_of relations (j ∷ []) fresh =
+pub new_jobs_have_none : (format : PageFormat) (relations : ℕ) (js : List Job)
+    → All (IsNewJob relations) js → JobsHaveOutput format js []
+new_jobs_have_none format relations [] fresh = refl
+new_jobs_have_none format relations (j ∷ []) fresh =
     let here = All-head (IsNewJob relations) j [] fresh in
-    no_text text_of j here.no_text here.no_warnings here.no_tally
-new_jobs_have_none text_of relations (j ∷ k ∷ js) fresh =
+    no_text format j here.no_text here.no_warnings here.no_tally
+new_jobs_have_none format relations (j ∷ k ∷ js) fresh =
     let here = All-head (IsNewJob relations) j (k ∷ js) fresh in
-    let later = new_jobs_have_none text_of relations (k ∷ js)
+    let later = new_jobs_have_none format relations (k ∷ js)
     (All-tail (IsNewJob relations) j (k ∷ js) fresh) in (
-      subst (JobHasOutput text_of j) (sym (take_none j.count))
-          (no_text text_of j here.no_text here.no_warnings here.no_tally),
-      subst (JobsHaveOutput text_of (k ∷ js)) (sym (drop_none j.count)) later,
+      subst (JobHasOutput format j) (sym (take_none j.count))
+          (no_text format j here.no_text here.no_warnings here.no_tally),
+      subst (JobsHaveOutput format (k ∷ js)) (sym (drop_none j.count)) later,
     )

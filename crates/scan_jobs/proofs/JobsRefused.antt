@@ -5,7 +5,7 @@ use Rattle.std.specs.Prelude.{Option, slice_index_or, slice_set, ⊤}
 use Rattle.std.specs.List.{All}
 use Rattle.page_check.specs.declared.world.World.{Ghosts as WorldGhosts}
 use Rattle.page_check.specs.Told.{Told}
-use Rattle.heap_tuple.specs.Listing.{text_with}
+use Rattle.scan_settings.specs.PageFormats.{page_format}
 use Rattle.scan_jobs.specs.BlockFilter.{BlockFilter}
 use Rattle.scan_jobs.specs.Jobs.{AllJobsAnswered, IsNewJob}
 use Rattle.scan_jobs.specs.Jobs.{unread_job_count, ended_job}
@@ -28,7 +28,7 @@ module _ (block_filter : Option BlockFilter) (how : ListOptions) (told : Option 
     as_many = refl;
     each = elim [
       | zero ↦ λ e lt. (none_listed block_filter how told (λ _. ⊤) (j ∷ []) (j ∷ []) refl
-          (new_jobs_have_none (text_with how.tuples) relations (j ∷ []) fresh)).0
+          (new_jobs_have_none (page_format how.page_text) relations (j ∷ []) fresh)).0
       | suc i ↦ λ e lt. absurd (omega arith)
     ];
   }

@@ -1,12 +1,12 @@
 -- What a map has of the pages that it has taken.
-use Rattle.std.proofs.Common.{◌≡◌, ℕ, false, List, [], ◌∷◌, ◌++◌, sym, ap, ◌∙◌, append-nil}
+use Rattle.std.proofs.Common.{◌≡◌, ℕ, List, [], ◌∷◌, ◌++◌, sym, ap, ◌∙◌}
 use Rattle.std.proofs.lemmas.List.{map-append}
 use Rattle.heap_scan.specs.Warnings.{warning_for, warnings_of}
 use Rattle.heap_scan.proofs.Jobs.{warnings-append}
 use Rattle.vis_map.specs.Bits.{Map}
 use Rattle.scan_jobs.specs.ConsumedPages.{MapHasPages}
 use Rattle.scan_jobs.proofs.UnitEntries.{G}
-use Rattle.scan_jobs.proofs.OutputOfPages.{no_warnings, one_warning, unwarned}
+use Rattle.scan_jobs.proofs.OutputOfPages.{no_warnings, one_warning}
 
 pub no_pages : (m : Map) (warnings : List ℕ) → m.added ≡ [] → warnings ≡ []
     → MapHasPages m warnings []
@@ -24,9 +24,3 @@ page_taken m n warnings warnings' g added warned pages has = record {
       ∙ ap (λ (l : List ℕ). warnings_of pages ++ l) (one_warning g)
       ∙ sym (warnings-append pages (g ∷ []));
 }
-
--- a page that was not zeroed has no warning
-pub none_warned : (warnings : List ℕ) (g : G) → g.zeroed ≡ false
-    → warnings ≡ warnings ++ warning_for g
-none_warned warnings g read =
-    sym (ap (λ (l : List ℕ). warnings ++ l) (unwarned g read) ∙ append-nil warnings)

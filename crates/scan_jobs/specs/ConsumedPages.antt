@@ -1,13 +1,16 @@
 -- What becomes of the pages that a stream gives.
-use Rattle.std.specs.Prelude.{◌≡◌, ℕ, List, ◌∷◌, [], ◌++◌, map, false, Option, Some, None}
+use Rattle.std.specs.Prelude.{◌≡◌, ◌≢◌, ℕ, List, ◌∷◌, [], ◌++◌, map, Option, Some, None}
 use Rattle.std.specs.Prelude.{take, drop, length}
 use Rattle.std.specs.List.{All}
 use Rattle.page_check.specs.IsAnswer.{IsAnswer, Next as Said, Page, Stop}
 use Rattle.page_check.specs.SynchronousAnswer.{Entry, Given, Ending as SaidEnding, reading_of}
 use Rattle.page_check.specs.Told.{Told}
+use Rattle.page_check.specs.PageBytes.{IsPage}
 use Rattle.page_check.specs.declared.rules.PageRules.{PageRules}
+use Rattle.page_check.specs.declared.rules.DamagedPages.TheVariants as damaged_pages
+use Rattle.page_check.specs.declared.rules.PageMark.TheVariants.{Zeroed}
 use Rattle.heap_scan.specs.Job.{endings_of}
-use Rattle.heap_scan.specs.Listing.{TextOf, listing}
+use Rattle.heap_scan.specs.Listing.{PageFormat, listing}
 use Rattle.heap_scan.specs.Sums.{sums_of}
 use Rattle.heap_scan.specs.Warnings.{warnings_of}
 use Rattle.vis_map.specs.Bits.{Map}
@@ -39,28 +42,29 @@ pub record PagesConsumed (holds : PagesPredicate) (rules : PageRules) (told : Op
     (end : Option SaidEnding) : Type 0 where
   pub pages : List (Given (Unit {0}))
   pub held : holds pages
-  pub none_zeroed : rules.zero ≡ false → All (λ g. g.zeroed ≡ false) pages
+  pub none_zeroed : rules.damaged ≢ damaged_pages.Zero → All (λ g. g.mark ≢ Zeroed) pages
   pub answers : IsAnswer (reading_of rules told) may entries
       (record { pages = pages; endings = endings_of end })
 
--- a job has the text, the warnings and the sums of the pages
-pub record JobHasOutput (text_of : TextOf) (j : Job) (pages : List (Given (Unit {0}))) : Type 0
+-- a job has the text, the warnings and the sums of the pages, each of which has 8192 bytes
+pub record JobHasOutput (format : PageFormat) (j : Job) (pages : List (Given (Unit {0}))) : Type 0
   where
-    pub text_is : j.text.items ≡ listing text_of pages
+    pub are_pages : All (λ g. IsPage g.page) pages
+    pub text_is : j.text.items ≡ listing format pages
     pub warnings_are : j.warnings.items ≡ warnings_of pages
-    pub sums_are : j.tally ≡ sums_of pages
+    pub sums_are : j.tally ≡ sums_of format pages
 
 -- jobs have the pages, one job after the other: each as many as it asks for blocks, and the last all
 -- that are left
-abbrev pub JobsHaveOutput : TextOf → List Job → PagesPredicate
-JobsHaveOutput text_of [] pages = pages ≡ []
-JobsHaveOutput text_of (j ∷ []) pages = JobHasOutput text_of j pages
-JobsHaveOutput text_of (j ∷ k ∷ js) pages = JobHasOutput text_of j (take j.count pages)
-    × JobsHaveOutput text_of (k ∷ js) (drop j.count pages)
+abbrev pub JobsHaveOutput : PageFormat → List Job → PagesPredicate
+JobsHaveOutput format [] pages = pages ≡ []
+JobsHaveOutput format (j ∷ []) pages = JobHasOutput format j pages
+JobsHaveOutput format (j ∷ k ∷ js) pages = JobHasOutput format j (take j.count pages)
+    × JobsHaveOutput format (k ∷ js) (drop j.count pages)
 
 -- they are so many
-abbrev pub HaveTaken : TextOf → ℕ → List Job → PagesPredicate
-HaveTaken text_of taken js pages = (taken ≡ length pages) × JobsHaveOutput text_of js pages
+abbrev pub HaveTaken : PageFormat → ℕ → List Job → PagesPredicate
+HaveTaken format taken js pages = (taken ≡ length pages) × JobsHaveOutput format js pages
 
 -- a map has the pages, and these are their warnings
 pub record MapHasPages (m : Map) (warnings : List ℕ) (pages : List (Given (Unit {0}))) : Type 0

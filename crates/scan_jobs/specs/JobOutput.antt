@@ -2,7 +2,7 @@
 use Rattle.std.specs.Prelude.{◌≡◌, ℕ, List, ◌++◌, Option, Some, None}
 use Rattle.heap_scan.specs.Warnings.{warning_for}
 use Rattle.page_check.specs.IsAnswer.{Next as Said, Page, Stop}
-use Rattle.heap_scan.specs.Listing.{TextOf, text_for}
+use Rattle.heap_scan.specs.Listing.{PageFormat, fault_count_for, text_for}
 use Rattle.heap_scan.specs.Sums.{sums_with_page}
 use Rattle.heap_scan.specs.declared.sums.PageSums.{PageSums}
 use Rattle.scan_jobs.specs.Jobs.{job_ending}
@@ -20,12 +20,12 @@ job_output text warnings sums = record { text = text; warnings = warnings; sums 
 
 -- a page's text and its warning, if it was zeroed, behind those before it, and the page in the
 -- sums, unless there is no memory; or the ending, with all as it was
-abbrev pub AnswerAppended : TextOf → Said (Unit {0}) → JobOutput → JobOutput → Option Ending
+abbrev pub AnswerAppended : PageFormat → Said (Unit {0}) → JobOutput → JobOutput → Option Ending
     → Type 0
-AnswerAppended text_of (Page given) before after None =
-    (after.text ≡ before.text ++ text_for text_of given)
+AnswerAppended format (Page given) before after None =
+    (after.text ≡ before.text ++ text_for format given)
     × (after.warnings ≡ before.warnings ++ warning_for given)
-    × (after.sums ≡ sums_with_page before.sums given.page)
-AnswerAppended text_of (Page given) before after (Some e) = (e ≡ ending.NoMemory) × (after ≡ before)
-AnswerAppended text_of (Stop end) before after result = (result ≡ Some (job_ending end))
+    × (after.sums ≡ sums_with_page (fault_count_for format given) before.sums given.page)
+AnswerAppended format (Page given) before after (Some e) = (e ≡ ending.NoMemory) × (after ≡ before)
+AnswerAppended format (Stop end) before after result = (result ≡ Some (job_ending end))
     × (after ≡ before)

@@ -1,14 +1,15 @@
 -- What a job asks for, and what has become of it.
-use Rattle.std.specs.Prelude.{◌≡◌, ℕ, ◌+◌, ◌^◌, ◌<◌, ◌≤◌, List, [], length, count_by, sum_by}
+use Rattle.std.specs.Prelude.{◌≡◌, ◌≢◌, ℕ, ◌+◌, ◌^◌, ◌<◌, ◌≤◌, List, [], length, count_by, sum_by}
 use Rattle.std.specs.Prelude.{Option, Some, None, Bool, true, false, slice_index_or, ⊤, cond}
 use Rattle.std.specs.Prelude.{◌++◌, ◌∷◌, ◌-◌, map, nat_le, if◌then◌else◌}
+use Rattle.page_check.specs.declared.rules.DamagedPages.TheVariants as damaged_pages
 use Rattle.page_check.specs.Told.{Told}
 use Rattle.page_check.specs.SynchronousAnswer.{Entry, reading_of, Ending as SaidEnding, End}
 use Rattle.page_check.specs.SynchronousAnswer.{Invalid as SaidInvalid, PastEnd as SaidPastEnd}
 use Rattle.page_check.specs.SynchronousAnswer.{Unread as SaidUnread}
 use Rattle.heap_scan.specs.Job.{IsJobAnswer}
 use Rattle.heap_scan.specs.Sums.{no_sums}
-use Rattle.heap_tuple.specs.Listing.{text_with}
+use Rattle.scan_settings.specs.PageFormats.{page_format}
 use Rattle.scan_settings.specs.ListOptions.{ListOptions}
 use Rattle.scan_jobs.specs.BlockFilter.{BlockFilter, unskipped_range}
 use Rattle.scan_jobs.specs.declared.job.Ending.{Ending}
@@ -110,10 +111,10 @@ count_unskipped block_filter jobs = sum_by (λ j. length (entries_of_job block_f
 pub record JobIsListed (block_filter : Option BlockFilter) (m : ListOptions) (told : Option Told)
     (may : Entry (Unit {0}) → Type 0) (j k : Job) : Type 0 where
   pub same : (k.relation ≡ j.relation) × (k.first ≡ j.first) × (k.count ≡ j.count)
-  pub answer : IsJobAnswer (text_with m.tuples) (reading_of m.rules told) may
+  pub answer : IsJobAnswer (page_format m.page_text) (reading_of m.rules told) may
       (entries_of_job block_filter j) k.text.items k.warnings.items k.tally (answered_ending
       k.ending)
-  pub no_warnings : m.rules.zero ≡ false → k.warnings.items ≡ []
+  pub no_warnings : m.rules.damaged ≢ damaged_pages.Zero → k.warnings.items ≡ []
 
 -- what has become of jobs that were put, whichever block may be unread
 pub record AllJobsAnswered (block_filter : Option BlockFilter) (m : ListOptions) (told : Option

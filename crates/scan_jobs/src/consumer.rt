@@ -1,10 +1,8 @@
 //! What takes the pages of a stream.
 ghost use Rattle.std.specs.Prelude.{◌≡◌, ◌<◌, ℕ, List, length};
-ghost use Rattle.std.specs.List.{All};
-ghost use Rattle.page_check.specs.SynchronousAnswer.{Given};
-ghost use Rattle.page_check.specs.Verdict.{IsValid};
+ghost use Rattle.page_check.specs.SynchronousAnswer.{Given, IsValidUnlessDamaged};
 ghost use Rattle.stream_answer.specs.StreamAnswers.{synchronous_answer};
-ghost use Rattle.page_check.specs.IsAnswer.{IfPage};
+ghost use Rattle.page_check.specs.IsAnswer.{IfGiven};
 ghost use Rattle.scan_jobs.specs.ConsumedPages.{AnswerConsumed};
 
 use crate::job::Ending;
@@ -26,10 +24,11 @@ pub trait Consumer: Drop {
     /// Takes what a stream answers next. Some where that was an ending, or where there was no
     /// memory for the page, which is not taken then.
     fn take(&mut self, relation: u32, answer: Next<'_, ()>) -> Option<Ending>
-        requires valid { IfPage (synchronous_answer relation answer) IsValid }
-        requires room { IfPage (synchronous_answer relation answer) (λ _.
+        requires valid { IfGiven (synchronous_answer relation answer)
+            (λ g. IsValidUnlessDamaged g.mark g.page) }
+        requires room { IfGiven (synchronous_answer relation answer) (λ _.
             (pages : List (Given (Unit {0}))) × holds self.old pages
-            × All (λ g. IsValid g.page) pages × (length pages < most self.old)) }
+            × (length pages < most self.old)) }
         ensures takes { AnswerConsumed (holds self.old) (holds self.new)
             (synchronous_answer relation answer.entry) result }
         ensures most { most self.new ≡ most self.old }

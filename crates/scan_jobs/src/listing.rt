@@ -1,69 +1,91 @@
 //! Lists the pages that a stream gives for its jobs.
-ghost use Rattle.std.specs.Prelude.{◌≡◌, ◌++◌, ◌≤◌, ◌<◌, None, Some, OnOk, OnErr, List, map};
+ghost use Rattle.std.specs.Prelude.{◌≡◌, ◌++◌, ◌≤◌, ◌<◌, None, Some, OnOk, OnErr, IfOk, List, map};
 ghost use Rattle.std.specs.Prelude.{length};
-ghost use Rattle.std.specs.List.{All};
-ghost use Rattle.page_check.specs.SynchronousAnswer.{Given};
+ghost use Rattle.page_check.specs.PageBytes.{IsPage};
+ghost use Rattle.page_check.specs.SynchronousAnswer.{Given, IsValidUnlessDamaged};
 ghost use Rattle.page_check.specs.Verdict.{IsValid};
 ghost use Rattle.heap_scan.specs.Sums.{FitSums, sums_with_page};
 ghost use Rattle.heap_scan.specs.Warnings.{warning_line};
-ghost use Rattle.heap_tuple.specs.Listing.{text_with};
 ghost use Rattle.stream_answer.specs.StreamAnswers.{synchronous_answer};
+ghost use Rattle.scan_settings.specs.PageFormats.{page_format};
 ghost use Rattle.scan_jobs.specs.ConsumedPages.{AnswerConsumed, HaveTaken, JobsHaveOutput};
 ghost use Rattle.scan_jobs.specs.JobOutput.{AnswerAppended, job_output};
 ghost use Rattle.scan_jobs.specs.Jobs.{ended_job, ended_jobs, job_outline};
-ghost use Rattle.page_check.specs.IsAnswer.{IfPage};
+ghost use Rattle.page_check.specs.IsAnswer.{IfGiven, IfPage};
 
 use crate::consumer::Consumer;
 use crate::job::{Ending, Job};
-use heap_scan::{PageSums, page_text, tally, warning_text};
+use heap_scan::{PageSums, damaged_text, tally, warning_text};
 use heap_tuple::tuples_text;
-use page_check::Page;
+use page_check::laws::a_page_has_8192_bytes;
+use page_check::{Page, PageMark};
+use page_faults::faults_text;
+use scan_settings::PageText;
 use std::alloc::AllocError;
 use stream_answer::Next;
 
-// Appends the text of a page, with its tuples or without.
+// Appends what is written of a page, and says how many faults that tells.
 fn put_text(
-    tuples: bool,
+    page_text: PageText,
+    mark: PageMark,
     relation: u32,
     block: u32,
     page: &Page,
     text: &mut Vec<u8>,
-) -> Result<(), AllocError>
-    requires valid { IsValid page.now }
-    ensures ok { OnOk result
-        (text.new.items ≡ text.old.items ++ text_with tuples relation block page.now) }
+) -> Result<u32, AllocError>
+    requires valid { IsValidUnlessDamaged mark page.now }
+    ensures ok { OnOk result (text.new.items ≡ text.old.items
+        ++ (page_format page_text).text_of mark relation block page.now) }
+    ensures count { IfOk result (λ count. count
+        ≡ (page_format page_text).fault_count_of mark relation block page.now) }
     ensures err { OnErr result (text.new.items ≡ text.old.items) }
 {
-    if tuples {
-        tuples_text(relation, block, page, text)
-    } else {
-        page_text(relation, block, page, text)
+    match (page_text, mark) {
+        (PageText::Faults(options), _) => {
+            let count = faults_text(&options, relation, block, page, text)?;
+            Ok(count as u32)
+        }
+        (PageText::Items | PageText::Tuples, PageMark::Damaged) => {
+            damaged_text(relation, block, page, text)?;
+            Ok(1)
+        }
+        (PageText::Items, PageMark::Valid | PageMark::Zeroed) => {
+            heap_scan::page_text(relation, block, page, text)?;
+            Ok(0)
+        }
+        (PageText::Tuples, PageMark::Valid | PageMark::Zeroed) => {
+            tuples_text(relation, block, page, text)?;
+            Ok(0)
+        }
     }
 }
 
 // Appends a page that was given, and counts it.
 fn show_page(
-    tuples: bool,
+    page_text: PageText,
+    mark: PageMark,
     relation: u32,
     block: u32,
     page: &Page,
     text: &mut Vec<u8>,
     sums: &mut PageSums,
 ) -> Result<(), AllocError>
-    requires valid { IsValid page.now }
-    requires fit { FitSums (sums_with_page sums.old page.now) }
-    ensures ok { OnOk result ((text.new.items ≡ text.old.items ++ text_with tuples relation block
-        page.now) × (sums.new ≡ sums_with_page sums.old page.now)) }
+    requires valid { IsValidUnlessDamaged mark page.now }
+    requires fit { FitSums sums.old }
+    ensures ok { OnOk result ((text.new.items ≡ text.old.items
+        ++ (page_format page_text).text_of mark relation block page.now)
+        × (sums.new ≡ sums_with_page ((page_format page_text).fault_count_of mark relation block
+        page.now) sums.old page.now)) }
     ensures err { OnErr result ((text.new.items ≡ text.old.items) × (sums.new ≡ sums.old)) }
 {
-    put_text(tuples, relation, block, page, text)?;
-    tally(page, sums);
+    let faults = put_text(page_text, mark, relation, block, page, text)?;
+    tally(page, faults, sums);
     Ok(())
 }
 
 // Appends a page that was given as zeros, and its warning, and counts it.
 fn show_zeroed(
-    tuples: bool,
+    page_text: PageText,
     relation: u32,
     block: u32,
     page: &Page,
@@ -72,16 +94,26 @@ fn show_zeroed(
     sums: &mut PageSums,
 ) -> Result<(), AllocError>
     requires valid { IsValid page.now }
-    requires fit { FitSums (sums_with_page sums.old page.now) }
-    ensures ok { OnOk result ((text.new.items ≡ text.old.items ++ text_with tuples relation block
-        page.now) × (warnings.new.items ≡ warnings.old.items ++ warning_line relation block)
-        × (sums.new ≡ sums_with_page sums.old page.now)) }
+    requires fit { FitSums sums.old }
+    ensures ok { OnOk result ((text.new.items ≡ text.old.items
+        ++ (page_format page_text).text_of PageMark.Zeroed relation block page.now)
+        × (warnings.new.items ≡ warnings.old.items ++ warning_line relation block)
+        × (sums.new ≡ sums_with_page ((page_format page_text).fault_count_of PageMark.Zeroed
+        relation block page.now) sums.old page.now)) }
     ensures err { OnErr result ((text.new.items ≡ text.old.items)
         × (warnings.new.items ≡ warnings.old.items) × (sums.new ≡ sums.old)) }
 {
     let before = warnings.len();
     warning_text(relation, block, warnings)?;
-    match show_page(tuples, relation, block, page, text, sums) {
+    match show_page(
+        page_text,
+        PageMark::Zeroed,
+        relation,
+        block,
+        page,
+        text,
+        sums,
+    ) {
         Ok(()) => Ok(()),
         Err(error) => {
             warnings.truncate(before);
@@ -104,26 +136,35 @@ fn ending_by(shown: Result<(), AllocError>) -> Option<Ending>
 // Appends the page that was answered, and its warning where it was zeroed, and counts it. Some
 // where the job has ended.
 fn show(
-    tuples: bool,
+    page_text: PageText,
     relation: u32,
     answer: Next<'_, ()>,
     text: &mut Vec<u8>,
     warnings: &mut Vec<u8>,
     sums: &mut PageSums,
 ) -> Option<Ending>
-    requires valid { IfPage (synchronous_answer relation answer) IsValid }
-    requires fit { IfPage (synchronous_answer relation answer)
-        (λ page. FitSums (sums_with_page sums.old page)) }
-    ensures { AnswerAppended (text_with tuples) (synchronous_answer relation answer.entry)
+    requires valid { IfGiven (synchronous_answer relation answer)
+        (λ g. IsValidUnlessDamaged g.mark g.page) }
+    requires fit { IfGiven (synchronous_answer relation answer) (λ _. FitSums sums.old) }
+    ensures shown { AnswerAppended (page_format page_text) (synchronous_answer relation answer.entry)
         (job_output text.old.items warnings.old.items sums.old)
         (job_output text.new.items warnings.new.items sums.new) result }
+    ensures page { IfPage (synchronous_answer relation answer.entry) IsPage }
 {
     match answer {
         Next::Page(page, block, _) => {
-            ending_by(show_page(tuples, relation, block, page, text, sums))
+            a_page_has_8192_bytes(page);
+            let mark = PageMark::Valid;
+            ending_by(show_page(page_text, mark, relation, block, page, text, sums))
+        }
+        Next::Damaged(page, block, _) => {
+            a_page_has_8192_bytes(page);
+            let mark = PageMark::Damaged;
+            ending_by(show_page(page_text, mark, relation, block, page, text, sums))
         }
         Next::Zeroed(page, block, _) => {
-            let shown = show_zeroed(tuples, relation, block, page, text, warnings, sums);
+            a_page_has_8192_bytes(page);
+            let shown = show_zeroed(page_text, relation, block, page, text, warnings, sums);
             ending_by(shown)
         }
         Next::End => Some(Ending::Pages),
@@ -133,34 +174,35 @@ fn show(
     }
 }
 
-/// Jobs that take pages, one job after the other: the text of the pages, with their tuples or
-/// without, their warnings and their sums.
+/// Jobs that take pages, one job after the other: what is written of the pages, their warnings and
+/// their sums.
 #[derive(Drop)]
 pub struct Listing<'j> {
     pub jobs: &'j mut [Job],
     /// How many pages they have taken.
     pub taken: u32,
-    pub tuples: bool,
+    pub page_text: PageText,
     ghost some: { 1 ≤ length jobs.now },
 }
 
 // Appends what was answered behind so many pages to its job: a job takes as many pages as it has
 // blocks, and the last takes all the others.
 fn show_in(
-    tuples: bool,
+    page_text: PageText,
     relation: u32,
     answer: Next<'_, ()>,
     taken: u32,
     jobs: &mut [Job],
 ) -> Option<Ending>
     requires some { 1 ≤ length jobs.old }
-    requires valid { IfPage (synchronous_answer relation answer) IsValid }
-    requires room { IfPage (synchronous_answer relation answer) (λ _.
-        (pages : List (Given (Unit {0}))) × HaveTaken (text_with tuples) taken jobs.old pages
-        × All (λ g. IsValid g.page) pages × (length pages < 4096)) }
-    ensures takes { AnswerConsumed (HaveTaken (text_with tuples) taken jobs.old)
-        (JobsHaveOutput (text_with tuples) jobs.new) (synchronous_answer relation answer.entry)
-        result }
+    requires valid { IfGiven (synchronous_answer relation answer)
+        (λ g. IsValidUnlessDamaged g.mark g.page) }
+    requires room { IfGiven (synchronous_answer relation answer) (λ _.
+        (pages : List (Given (Unit {0}))) × HaveTaken (page_format page_text) taken jobs.old pages
+        × (length pages < 4096)) }
+    ensures takes { AnswerConsumed (HaveTaken (page_format page_text) taken jobs.old)
+        (JobsHaveOutput (page_format page_text) jobs.new)
+        (synchronous_answer relation answer.entry) result }
     ensures kept { map job_outline jobs.new ≡ map job_outline jobs.old }
 {
     let Some((job, later)) = jobs.split_first_mut() else {
@@ -168,7 +210,7 @@ fn show_in(
     };
     let is_whole = taken >= job.count;
     if !later.is_empty() && is_whole {
-        return show_in(tuples, relation, answer, taken - job.count, later);
+        return show_in(page_text, relation, answer, taken - job.count, later);
     }
     let Job {
         text,
@@ -176,7 +218,7 @@ fn show_in(
         tally,
         ..
     } = job;
-    show(tuples, relation, answer, text, warnings, tally)
+    show(page_text, relation, answer, text, warnings, tally)
 }
 
 // Ends jobs that nobody lists, since one before them ended early.
@@ -206,22 +248,29 @@ pub fn end_jobs(jobs: &mut [Job], taken: u32, ending: Ending)
 }
 
 impl Consumer for Listing<'_> {
-    ghost use Rattle.heap_tuple.specs.Listing.{text_with};
+    ghost use Rattle.scan_settings.specs.PageFormats.{page_format};
+    ghost use Rattle.scan_settings.specs.declared.page_text.PageText.{PageText};
     ghost use Rattle.scan_jobs.specs.ConsumedPages.{HaveTaken};
     ghost use Rattle.scan_jobs.specs.Jobs.{job_outline, JobOutline};
-    ghost use Rattle.std.specs.Prelude.{Bool, ℕ, List, map};
+    ghost use Rattle.std.specs.Prelude.{ℕ, List, map};
 
-    ghost holds = { λ l. HaveTaken (text_with l.tuples) l.taken l.jobs.now };
+    ghost holds = { λ l. HaveTaken (page_format l.page_text) l.taken l.jobs.now };
 
     ghost most = { λ l. 4096 };
 
     // Which jobs are on loan, and what they ask for.
-    ghost Kept = { ℕ × Bool × List JobOutline };
+    ghost Kept = { ℕ × PageText × List JobOutline };
 
-    ghost kept = { λ l. (l.jobs.ghost_name, l.tuples, map job_outline l.jobs.now) };
+    ghost kept = { λ l. (l.jobs.ghost_name, l.page_text, map job_outline l.jobs.now) };
 
     fn take(&mut self, relation: u32, answer: Next<'_, ()>) -> Option<Ending> {
-        let ending = show_in(self.tuples, relation, answer, self.taken, &mut *self.jobs);
+        let ending = show_in(
+            self.page_text,
+            relation,
+            answer,
+            self.taken,
+            &mut *self.jobs,
+        );
         if ending.is_none() {
             self.taken += 1;
         }

@@ -32,6 +32,10 @@ impl Consumer for MapPages<'_> {
                 self.map.add(page);
                 None
             }
+            Next::Damaged(page, _, _) => {
+                self.map.add(page);
+                None
+            }
             Next::Zeroed(page, block, _) => {
                 match warning_text(relation, block, self.warnings) {
                     Ok(()) => {

@@ -1,7 +1,7 @@
 -- The first backend has closed the queue.
 use Rattle.std.proofs.Common.{◌≡◌, ℕ, ◌<◌, ◌≤◌, List, [], ◌∷◌, length, map, sum_by, sym, ap, ◌∙◌}
 use Rattle.std.proofs.Common.{refl, subst, arith}
-use Rattle.std.specs.Prelude.{Option, IfSome, is_some, slice_index_or, slice_set, Bool}
+use Rattle.std.specs.Prelude.{Option, IfSome, is_some, slice_index_or, slice_set}
 use Rattle.std.specs.List.{All}
 use Rattle.std.proofs.lemmas.List.{get_or-map, length-map}
 use Rattle.std.proofs.lemmas.List.Elements.{All-set}
@@ -15,6 +15,7 @@ use Rattle.scan_jobs.specs.BlockFilter.{BlockFilter}
 use Rattle.scan_rounds.specs.DiskActors.{ActorHasRoom, IsBackend, backend_options}
 use Rattle.scan_jobs.specs.Jobs.{JobIsListed}
 use Rattle.scan_settings.specs.ListOptions.{ListOptions, list_options}
+use Rattle.scan_settings.specs.declared.page_text.PageText.{PageText}
 use Rattle.scan_rounds.specs.Rounds.{AllHaveOptions, AllJobsListed, IsLeastRoom, backend_disk_actor}
 use Rattle.read_stream.specs.declared.desk.Desk.{Desk}
 use Rattle.scan_rounds.specs.declared.backend.Backend.{Backend}
@@ -76,11 +77,11 @@ module _ {W D : Type 0} where
 
   -- the first of them, which lists with the same options
   pub first_options : (bs : List (Backend W D)) (b c : Backend W D) → b ≡ slice_index_or bs 0 b
-      → 1 ≤ length bs → c.desk ≡ b.desk → c.tuples ≡ b.tuples → (how : ListOptions)
+      → 1 ≤ length bs → c.desk ≡ b.desk → c.page_text ≡ b.page_text → (how : ListOptions)
       → AllHaveOptions how bs → AllHaveOptions how (slice_set bs 0 c)
-  first_options bs b c is some desk tuples how all =
-      let same = ap (λ (x : Desk W (Unit {0})). list_options x.settings.rules c.tuples) desk
-      ∙ ap (λ (x : Bool). list_options b.desk.settings.rules x) tuples in
+  first_options bs b c is some desk text how all =
+      let same = ap (λ (x : Desk W (Unit {0})). list_options x.settings.rules c.page_text) desk
+      ∙ ap (λ (x : PageText). list_options b.desk.settings.rules x) text in
       All-set (λ (x : Backend W D). backend_options x ≡ how) bs 0 c
       (same ∙ (ap (λ (x : Backend W D). backend_options x) is ∙ all 0 b some)) all
 

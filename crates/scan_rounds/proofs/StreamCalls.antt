@@ -21,7 +21,7 @@ at_place s t told now r a same place is =
     (synchronous_answer z.relation a)) same is in
     subst (λ (n : ℕ). IsStreamAnswer told (later_stream s n t.given) now (synchronous_answer n a))
     place
-    (record { next = here.next; valid = here.valid; zeroed = here.zeroed; within = here.within })
+    (record { next = here.next; valid = here.valid; marked = here.marked; within = here.within })
 
 -- how many pages it has given then
 pub given_by_call : (s t n : StreamView (Unit {0})) (now : ActorView) (r : ℕ)

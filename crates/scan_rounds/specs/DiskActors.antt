@@ -1,5 +1,5 @@
 -- An actor with its disk, between its calls, and what a call makes of it.
-use Rattle.std.specs.Prelude.{◌≡◌, ℕ, ◌+◌, ◌^◌, ◌<◌, ◌≤◌, ◌++◌, Bool, List, Option, Some}
+use Rattle.std.specs.Prelude.{◌≡◌, ℕ, ◌+◌, ◌^◌, ◌<◌, ◌≤◌, ◌++◌, List, Option, Some}
 use Rattle.std.specs.Prelude.{IfSome, is_some, length, true, ◌*◌}
 use Rattle.std.specs.List.{All, AllZip}
 use Rattle.page_check.specs.declared.world.World.{Ghosts as WorldGhosts}
@@ -19,6 +19,7 @@ use Rattle.method_worker.specs.QueueViews.{QueueView, IsSeatOf}
 use Rattle.vis_map.specs.Bits.{Map}
 use Rattle.aio_disk.specs.declared.disk.Disk.{Ghosts as DiskGhosts}
 use Rattle.scan_settings.specs.ListOptions.{ListOptions, list_options}
+use Rattle.scan_settings.specs.declared.page_text.PageText.{PageText}
 use Rattle.scan_jobs.specs.Jobs.{IsNewJob, JobIsListed, answered_ending, count_unskipped}
 use Rattle.scan_jobs.specs.Jobs.{unread_job_count}
 use Rattle.scan_jobs.specs.StreamBlocks.{IsStreamOfJobs, entries_of_blocks, map_blocks}
@@ -38,7 +39,7 @@ ActorHasRoom least a = (room : ℕ) × IsRoom a.known.config a.known room × (le
 
 -- the options with which a backend lists
 abbrev pub backend_options : {W D : Type 0} → Backend W D → ListOptions
-backend_options b = list_options b.desk.settings.rules b.tuples
+backend_options b = list_options b.desk.settings.rules b.page_text
 
 module _ {W D : Type 0} (m : DiskGhosts D) (world : WorldGhosts W)
     (t : TableView) where
@@ -93,8 +94,8 @@ module _ {W D : Type 0} (m : DiskGhosts D) (world : WorldGhosts W)
     pub fresh : All (IsNewJob world.relations) js
     pub stream : IsStreamOfJobs b js
 
-  -- it has listed those blocks that are not left out, with their tuples or without
-  pub record ActorListedJobs (block_filter : Option BlockFilter) (tuples : Bool)
+  -- it has listed those blocks that are not left out, and has written this of each page
+  pub record ActorListedJobs (block_filter : Option BlockFilter) (page_text : PageText)
       (h k : DiskActor W D) (d e : Desk W (Unit {0})) (js ls : List Job) : Type 0 where
     pub disk_actor : IsDiskActor k
     pub advanced : DiskActorAdvanced h k
@@ -105,8 +106,8 @@ module _ {W D : Type 0} (m : DiskGhosts D) (world : WorldGhosts W)
     pub unread : failed_result_count h.actor.known.marks + unread_job_count ls
         ≤ failed_result_count k.actor.known.marks
     pub desk : IsFreeDesk e × (e.settings.rules ≡ d.settings.rules)
-    pub listed : AllZip (JobIsListed block_filter (list_options d.settings.rules tuples) world.told
-        (MayBeUnread h.actor k.actor.known)) js ls
+    pub listed : AllZip (JobIsListed block_filter (list_options d.settings.rules page_text)
+        world.told (MayBeUnread h.actor k.actor.known)) js ls
 
   module _ (q : QueueView) where
     pub record IsBackend (b : Backend W D) : Type 0 where

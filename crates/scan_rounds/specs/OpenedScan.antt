@@ -1,6 +1,6 @@
 -- What the settings of a scan make.
 use Rattle.std.specs.Prelude.{◌≡◌, ℕ, ◌<◌, ◌≤◌, ◌+◌, ◌*◌, ◌/◌, List, [], length, drop, min, max}
-use Rattle.std.specs.Prelude.{◌-◌, ◌^◌, Some, vec_capacity, slice_get, slice_index_or, Bool}
+use Rattle.std.specs.Prelude.{◌-◌, ◌^◌, Some, vec_capacity, slice_get, slice_index_or}
 use Rattle.std.specs.Option.{is_some}
 use Rattle.std.specs.List.{All}
 use Rattle.std.specs.Vec.Iter.{into_iter_items}
@@ -22,6 +22,7 @@ use Rattle.scan_rounds.specs.declared.memory.Lists.{Lists}
 use Rattle.scan_rounds.specs.declared.memory.Memory.{Memory}
 use Rattle.scan_rounds.specs.declared.open.Parts.{Parts}
 use Rattle.scan_rounds.specs.declared.scan.Scan.{Scan}
+use Rattle.scan_settings.specs.declared.page_text.PageText.{PageText}
 use Rattle.scan_settings.specs.declared.settings.ScanSettings.{ScanSettings}
 use Rattle.scan_rounds.specs.declared.worker.Worker.{Worker}
 use Rattle.scan_settings.specs.Settings.{needs_of_method, workers_of_settings, seats_of_settings, rings_of_settings, page_rules}
@@ -85,12 +86,13 @@ module _ {W D : Type 0} where
     pub disk : slice_get (into_iter_items p.disks) k ≡ h.disk
 
   -- a backend has the parts of this number: a seat and a ring, where there are so many
-  pub record IsBackendOf (tuples : Bool) (p : Parts W D) (k : ℕ) (b : Backend W D) : Type 0 where
+  pub record IsBackendOf (page_text : PageText) (p : Parts W D) (k : ℕ) (b : Backend W D)
+      : Type 0 where
     pub disk_actor : IsDiskActorOf p k b.disk_actor
     pub desk : slice_get (into_iter_items p.desks) k ≡ Some b.desk
     pub seat : slice_get (into_iter_items p.seats) k ≡ b.seat
     pub ring : slice_get (into_iter_items p.rings) k ≡ b.ring
-    pub tuples_are : b.tuples ≡ tuples
+    pub page_text_is : b.page_text ≡ page_text
 
   -- a worker has the parts of this number
   pub record IsWorkerOf (p : Parts W D) (k : ℕ) (w : Worker W D) : Type 0 where
@@ -110,10 +112,10 @@ module _ {W D : Type 0} where
     pub rings : into_iter_items left.rings ≡ drop n (into_iter_items p.rings)
 
   -- each backend of the list has the parts of its number, and these are left
-  pub record GivesBackends (tuples : Bool) (p left : Parts W D) (bs : List (Backend W D))
+  pub record GivesBackends (page_text : PageText) (p left : Parts W D) (bs : List (Backend W D))
       : Type 0 where
     pub each : (k : ℕ) (b : Backend W D) → k < length bs
-        → IsBackendOf tuples p k (slice_index_or bs k b)
+        → IsBackendOf page_text p k (slice_index_or bs k b)
     pub left_are : IsLeftByBackends (length bs) p left
 
   -- each worker of the list has the parts of its number, and these are left
@@ -133,4 +135,4 @@ pub record IsOpenedScan {W D : Type 0} (m : DiskGhosts D) (world : WorldGhosts W
   -- up to the last generation
   pub room : s.room ≡ 2 ^ 58 - 1 - start
   pub unread : s.unread ≡ 0
-  pub options_are : scan_options s ≡ list_options (page_rules settings) settings.tuples
+  pub options_are : scan_options s ≡ list_options (page_rules settings) settings.page_text

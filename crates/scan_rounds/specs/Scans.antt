@@ -28,7 +28,7 @@ module _ {W D : Type 0} where
 
   -- the options with which its backends list
   abbrev pub scan_options : Scan W D → ListOptions
-  scan_options s = list_options s.rules s.tuples
+  scan_options s = list_options s.rules s.page_text
 
   -- the disks, as they were when the scan was opened
   abbrev pub opened_disks : Scan W D → List D

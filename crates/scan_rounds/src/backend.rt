@@ -17,6 +17,7 @@ use method_worker::{QueueSeat, WorkerMethod};
 use page_check::World;
 use read_stream::Desk;
 use scan_jobs::{Blocks, Ending, Job};
+use scan_settings::PageText;
 use std::sync::Wait;
 use vis_map::VisMap;
 
@@ -28,8 +29,8 @@ pub(crate) struct Backend<W: World, D: Disk> {
     pub(crate) seat: Option<QueueSeat>,
     /// None where it executes I/Os one by one, and while a runner has it.
     pub(crate) ring: Option<IdleRingState<W>>,
-    /// Whether the headers of tuples are listed too.
-    pub(crate) tuples: bool,
+    /// What is written of a page.
+    pub(crate) page_text: PageText,
 }
 
 impl<W: World, D: Disk> HasDiskActor<W, D> for Backend<W, D> {
@@ -63,7 +64,7 @@ impl<W: World, D: Disk> Backend<W, D> {
             desk,
             seat,
             ring,
-            tuples,
+            page_text,
         } = self;
         match seat.take() {
             Some(own) => {
@@ -71,7 +72,16 @@ impl<W: World, D: Disk> Backend<W, D> {
                     queue: &shared.queue,
                     seat: own,
                 };
-                disk_actor.list(rt, shared, desk, ring, &mut method, blocks, jobs, *tuples);
+                disk_actor.list(
+                    rt,
+                    shared,
+                    desk,
+                    ring,
+                    &mut method,
+                    blocks,
+                    jobs,
+                    *page_text,
+                );
                 *seat = Some(method.seat);
             }
             None => disk_actor.list(
@@ -82,7 +92,7 @@ impl<W: World, D: Disk> Backend<W, D> {
                 &mut SyncMethod,
                 blocks,
                 jobs,
-                *tuples,
+                *page_text,
             ),
         }
     }
@@ -119,7 +129,7 @@ impl<W: World, D: Disk> Backend<W, D> {
         ensures seat { IfSome self.new.seat (IsSeatOf shared.now.queue) }
         ensures closed { IfSome self.new.seat (HasClosed shared.now.queue) }
         ensures rest { (self.new.disk_actor ≡ self.old.disk_actor) × (self.new.desk ≡ self.old.desk)
-            × (self.new.tuples ≡ self.old.tuples) × (self.new.ring ≡ self.old.ring) }
+            × (self.new.page_text ≡ self.old.page_text) × (self.new.ring ≡ self.old.ring) }
         ensures seat_kept { is_some self.new.seat ≡ is_some self.old.seat }
     {
         if let Some(seat) = &mut self.seat {

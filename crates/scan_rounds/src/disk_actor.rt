@@ -24,6 +24,7 @@ use method_worker::{QueueSeat, SubmitQueue, work};
 use page_check::World;
 use read_stream::{Desk, end_borrow};
 use scan_jobs::{Blocks, Consumer, Ending, Job, Listing, MapFilter, MapPages, end_jobs};
+use scan_settings::PageText;
 use std::marker::{Brand, PhantomData};
 use std::sync::Wait;
 use vis_map::VisMap;
@@ -177,20 +178,20 @@ impl<W: World, D: Disk> DiskActor<W, D> {
         method: &mut M,
         blocks: Blocks<'_>,
         jobs: &mut [Job],
-        tuples: bool,
+        page_text: PageText,
     )
         requires may { ActorMayList D.Disk W.World shared.now.table self.old desk.old blocks
             jobs.old }
         requires ring { IfSome ring.old (IsRingOf shared.now.queue) }
         ensures listed { ActorListedJobs D.Disk W.World shared.now.table (filter_of_skipping
-            blocks.entry.by_map) tuples self.old self.new desk.old desk.new jobs.old jobs.new }
+            blocks.entry.by_map) page_text self.old self.new desk.old desk.new jobs.old jobs.new }
         ensures ring { IfSome ring.new (IsRingOf shared.now.queue) }
         ensures stands_on { M.stands_on method.new ≡ M.stands_on method.old }
     {
         let mut listing = Listing {
             jobs,
             taken: 0,
-            tuples,
+            page_text,
         };
         let ending = self.read(rt, shared, desk, ring, method, blocks, &mut listing);
         let Listing { jobs, taken, .. } = listing;

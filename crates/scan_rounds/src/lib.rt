@@ -3,7 +3,7 @@
 //!
 //! A [`Scan`] is opened over a disk for each backend and each worker. Its [`Scan::round`] takes up
 //! to one [`Job`] for each backend: each reads its blocks through a read stream, appends the text
-//! of their pages, with their tuples where the settings say so, and counts them. With
+//! of their pages that the settings choose, and counts them. With
 //! `MethodKind::Sync` each backend executes its own I/Os; with `MethodKind::Worker` the workers do,
 //! and a backend executes what no worker has claimed when it would wait for it. [`Scan::run`] lists
 //! all jobs of a [`JobSource`] by shares; its servers and workers live through the run.
@@ -16,7 +16,7 @@
 //!
 //! In whatever way backends and workers interleave, after a round each job's text, sums and ending
 //! are those of answers to its blocks (`IsJobAnswer` of heap_scan), by the text of a page that the
-//! settings choose (`text_with` of heap_tuple): where the contents are told, those of the pages
+//! settings choose (`page_format` of scan_settings): where the contents are told, those of the pages
 //! that one thread's synchronous reads give, up to the first page that is invalid, missing or
 //! unread. A job ends in Unread only where a read of its backend's own stream has failed, whose
 //! mark stands in that actor's list; want of memory leaves the text and the sums of the first
@@ -50,4 +50,4 @@ mod worker;
 pub use read_stream::end_borrow;
 pub use scan::{RingScan, Scan};
 pub use scan_jobs::{Ending, Job, JobSource, MapFilter};
-pub use scan_settings::{MethodKind, ScanSettings};
+pub use scan_settings::{MethodKind, PageText, ScanSettings};

@@ -22,7 +22,7 @@ use aio_handle::Actor;
 use method_worker::QueueSeat;
 use page_check::World;
 use read_stream::Desk;
-use scan_settings::ScanSettings;
+use scan_settings::{PageText, ScanSettings};
 use std::alloc::Global;
 use std::snapshot::Snapshot;
 use std::vec::IntoIter;
@@ -69,10 +69,10 @@ impl<W: World, D: Disk> Parts<W, D> {
     }
 
     // The next backend. It has a seat if there is one, and a ring if there is one.
-    fn backend(&mut self, tuples: bool) -> Backend<W, D>
+    fn backend(&mut self, page_text: PageText) -> Backend<W, D>
         requires actor { 1 ≤ length (into_iter_items self.old.actors) }
         requires desk { 1 ≤ length (into_iter_items self.old.desks) }
-        ensures backend { IsBackendOf tuples self.old 0 result }
+        ensures backend { IsBackendOf page_text self.old 0 result }
         ensures left { IsLeftByBackends 1 self.old self.new }
     {
         let disk_actor = self.disk_actor();
@@ -84,7 +84,7 @@ impl<W: World, D: Disk> Parts<W, D> {
             desk,
             seat: next_of(&mut self.seats),
             ring: next_of(&mut self.rings),
-            tuples,
+            page_text,
         }
     }
 
@@ -106,17 +106,17 @@ impl<W: World, D: Disk> Parts<W, D> {
     fn backends(
         &mut self,
         count: u32,
-        tuples: bool,
+        page_text: PageText,
         mut backends: Vec<Backend<W, D>>,
     ) -> Vec<Backend<W, D>>
         requires actors { count ≤ length (into_iter_items self.old.actors) }
         requires desks { count ≤ length (into_iter_items self.old.desks) }
         requires empty { (backends.items ≡ []) × (count ≤ vec_capacity backends) }
-        ensures made { GivesBackends tuples self.old self.new result.items }
+        ensures made { GivesBackends page_text self.old self.new result.items }
         ensures count { length result.items ≡ count }
     {
         for _ in 0..count {
-            backends.push_reserved(self.backend(tuples));
+            backends.push_reserved(self.backend(page_text));
         }
         backends
     }
@@ -160,7 +160,7 @@ fn assemble_scan<W: World, D: Disk>(
         rings: memory.rings.into_iter(),
         desks: memory.desks.into_iter(),
     };
-    let backends = parts.backends(settings.backends, settings.tuples, lists.backends);
+    let backends = parts.backends(settings.backends, settings.page_text, lists.backends);
     let workers = parts.workers(settings.worker_count(), lists.workers);
     Scan {
         shared: memory.shared,
@@ -170,7 +170,7 @@ fn assemble_scan<W: World, D: Disk>(
         room: LAST_GENERATION - start,
         unread: 0,
         rules: settings.page_rules(),
-        tuples: settings.tuples,
+        page_text: settings.page_text,
         opened,
         actors: lists.actors,
         disks: lists.disks,

@@ -8,6 +8,7 @@ use aio_callback::ReadIo;
 use aio_disk::Disk;
 use aio_handle::Actor;
 use page_check::{PageRules, World};
+use scan_settings::PageText;
 use std::alloc::Global;
 use std::snapshot::Snapshot;
 
@@ -26,8 +27,8 @@ pub struct Scan<W: World, D: Disk> {
     pub(crate) unread: u64,
     // How pages are read.
     pub(crate) rules: PageRules,
-    // Whether the headers of tuples are listed too.
-    pub(crate) tuples: bool,
+    // What is written of a page.
+    pub(crate) page_text: PageText,
     // The disks as they were when the scan was opened, those of the backends first.
     pub(crate) opened: Snapshot<Vec<D>>,
     // Empty, with room for all actors and all disks.

@@ -1,2 +1,3 @@
 pub mod ListOptions
+pub mod PageFormats
 pub mod Settings

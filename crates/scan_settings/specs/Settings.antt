@@ -9,7 +9,7 @@ use Rattle.scan_settings.specs.declared.settings.MethodKind.TheVariants as metho
 
 -- how its pages are read
 abbrev pub page_rules : ScanSettings → PageRules
-page_rules s = record { checksums = s.checksums; zero = s.zero }
+page_rules s = record { checksums = s.checksums; damaged = s.damaged }
 
 -- what a scan has by a method: a seat of the queue for each backend, workers, rings
 abbrev pub needs_of_method : MethodKind → MethodNeeds

@@ -4,7 +4,8 @@ ghost use Rattle.scan_settings.specs.Settings.{AreValidScanSettings, needs_of_me
 ghost use Rattle.scan_settings.specs.Settings.{page_rules, required_disks, rings_of_settings};
 ghost use Rattle.scan_settings.specs.Settings.{seats_of_settings, workers_of_settings};
 
-use page_check::PageRules;
+use crate::page_text::PageText;
+use page_check::{DamagedPages, PageRules};
 
 /// Who executes I/O (`io_method`).
 #[derive(Clone, Copy, Debug, PartialEq, Eq)]
@@ -70,10 +71,10 @@ pub struct ScanSettings {
     pub segment: u32,
     /// Whether page checksums are verified (`data_checksums`).
     pub checksums: bool,
-    /// Whether damaged pages are given as zeros, with a warning (`zero_damaged_pages`).
-    pub zero: bool,
-    /// Whether the headers of heap tuples and the update chains are listed too.
-    pub tuples: bool,
+    /// What becomes of pages that are not valid. Of each that is zeroed there is a warning.
+    pub damaged: DamagedPages,
+    /// What is written of a page.
+    pub page_text: PageText,
 }
 
 impl ScanSettings {
@@ -83,7 +84,7 @@ impl ScanSettings {
     {
         PageRules {
             checksums: self.checksums,
-            zero: self.zero,
+            damaged: self.damaged,
         }
     }
 

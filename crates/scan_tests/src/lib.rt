@@ -7,6 +7,8 @@
 #[cfg(test)]
 mod blocked_reads;
 #[cfg(test)]
+mod damaged_pages;
+#[cfg(test)]
 mod faults;
 #[cfg(test)]
 mod helpers;
@@ -15,8 +17,6 @@ mod listings;
 #[cfg(test)]
 mod maps;
 #[cfg(test)]
+mod page_texts;
+#[cfg(test)]
 mod rings;
-#[cfg(test)]
-mod tuples;
-#[cfg(test)]
-mod zero_damaged;

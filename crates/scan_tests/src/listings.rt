@@ -78,59 +78,74 @@ fn check_listing<R: Abort + AllocGlobal + Threads + Wait + Sync>(
     Ok(outcome)
 }
 
-/// A name, the settings, how many blocks, and the least and the most I/Os, and the most of workers.
-type Row = (&'static str, ScanSettings, u32, (u128, u128), u128);
+/// The settings, how many blocks, and the least and the most I/Os, and the most of workers.
+type Row = (ScanSettings, u32, (u128, u128), u128);
 
-const ROWS: [Row; 3] = [
-    (
-        "pages one by one by 64 handles",
-        ScanSettings {
-            workers: 1,
-            handles: 64,
-            concurrency: 64,
-            combine: 1,
-            ..USUAL
-        },
-        512,
-        (512, 512),
-        512,
-    ),
-    (
-        "all actors over sixteen frames",
-        ScanSettings {
-            workers: 32,
-            backends: 16,
-            buffers: 16,
-            ..USUAL
-        },
-        1024,
-        (64, 1024),
-        1024,
-    ),
-    (
-        "rings over sixteen frames",
-        ScanSettings {
-            method: MethodKind::Ring,
-            backends: 16,
-            combine: 3,
-            buffers: 16,
-            ..USUAL
-        },
-        1024,
-        (342, 1024),
-        0,
-    ),
-];
+const ONE_BY_ONE: Row = (
+    ScanSettings {
+        workers: 1,
+        handles: 64,
+        concurrency: 64,
+        combine: 1,
+        ..USUAL
+    },
+    512,
+    (512, 512),
+    512,
+);
+
+const ALL_ACTORS: Row = (
+    ScanSettings {
+        workers: 32,
+        backends: 16,
+        buffers: 16,
+        ..USUAL
+    },
+    1024,
+    (64, 1024),
+    1024,
+);
+
+const RINGS: Row = (
+    ScanSettings {
+        method: MethodKind::Ring,
+        backends: 16,
+        combine: 3,
+        buffers: 16,
+        ..USUAL
+    },
+    1024,
+    (342, 1024),
+    0,
+);
+
+// Compares the text, and how many I/Os there were.
+fn check_row<R: Abort + AllocGlobal + Threads + Wait + Sync>(
+    rt: &R,
+    name: &str,
+    row: Row,
+) -> Result<(), Fail> {
+    let (settings, blocks, (least, most), by_workers) = row;
+    let outcome = check_listing(rt, name, &settings, blocks)?;
+    let count = outcome.incarnations;
+    assert!(rt; least <= count && count <= most, "{name}");
+    assert!(rt; outcome.by_workers <= by_workers, "{name}");
+    Ok(())
+}
 
 #[test]
-fn many_pages_by_many_actors(rt: HostRuntime) -> Result<(), Fail> {
-    for (name, settings, blocks, (least, most), by_workers) in ROWS {
-        let outcome = check_listing(&rt, name, &settings, blocks)?;
-        let count = outcome.incarnations;
-        assert!(&rt; least <= count && count <= most, "{name}");
-        assert!(&rt; outcome.by_workers <= by_workers, "{name}");
-    }
-    Ok(())
+fn pages_one_by_one_by_64_handles(rt: HostRuntime) -> Result<(), Fail> {
+    check_row(&rt, "one by one", ONE_BY_ONE)
+}
+
+#[test]
+fn all_actors_over_sixteen_frames(rt: HostRuntime) -> Result<(), Fail> {
+    check_row(&rt, "all actors", ALL_ACTORS)
+}
+
+#[test]
+fn rings_over_sixteen_frames(rt: HostRuntime) -> Result<(), Fail> {
+    check_row(&rt, "rings", RINGS)
 }
 
 // Lists 130 pages 25 times under each of these settings.
@@ -158,16 +173,23 @@ fn check_sizes<R: Abort + AllocGlobal + Threads + Wait + Sync>(
 }
 
 #[test]
-fn the_same_text_under_each_setting(rt: HostRuntime) -> Result<(), Fail> {
-    for (name, method, batch) in [
-        ("sync", MethodKind::Sync, false),
-        ("sync, in batches", MethodKind::Sync, true),
-        ("worker", MethodKind::Worker, false),
-        ("worker, in batches", MethodKind::Worker, true),
-    ] {
-        check_sizes(&rt, name, method, batch)?;
-    }
-    Ok(())
+fn the_same_text_by_sync(rt: HostRuntime) -> Result<(), Fail> {
+    check_sizes(&rt, "sync", MethodKind::Sync, false)
+}
+
+#[test]
+fn the_same_text_by_sync_in_batches(rt: HostRuntime) -> Result<(), Fail> {
+    check_sizes(&rt, "sync, in batches", MethodKind::Sync, true)
+}
+
+#[test]
+fn the_same_text_by_workers(rt: HostRuntime) -> Result<(), Fail> {
+    check_sizes(&rt, "worker", MethodKind::Worker, false)
+}
+
+#[test]
+fn the_same_text_by_workers_in_batches(rt: HostRuntime) -> Result<(), Fail> {
+    check_sizes(&rt, "worker, in batches", MethodKind::Worker, true)
 }
 
 // Compares the sums of the jobs.
@@ -192,11 +214,13 @@ fn jobs_count_their_pages(rt: HostRuntime) -> Result<(), Fail> {
         pages: 4,
         zero: 2,
         items: 3,
+        faults: 0,
     };
     let second = PageSums {
         pages: 3,
         zero: 1,
         items: 6,
+        faults: 0,
     };
     check_tallies(&rt, outcome.jobs.as_slice(), &[first, second]);
     Ok(())

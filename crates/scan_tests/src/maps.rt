@@ -4,6 +4,7 @@ use crate::helpers::map_rounds::{MapScanRequest, MapScanResult, scan_by_map};
 use crate::helpers::opening::{METHODS, USUAL};
 use crate::helpers::rounds::JobResult;
 use fault_injection::MemShelf;
+use page_check::DamagedPages;
 use page_fixtures::files::{Faults, STEADY, blocks_read, one_file, shelf_of};
 use page_fixtures::pages::{CONTENTS, EMPTY, Parts, bytes_of, numbered_pages, page_of, put_bytes};
 use scan_rounds::{Ending, MethodKind, ScanSettings};
@@ -186,14 +187,14 @@ fn check_no_map<R: Abort + AllocGlobal + Threads + Wait + Sync>(
 #[test]
 fn a_damaged_map_marks_nothing(rt: HostRuntime) -> Result<(), Fail> {
     let rows = [
-        (false, (Ending::Invalid(0), "", 0)),
-        (true, (Ending::Pages, "zeroed page 1 0\n", 0)),
+        (DamagedPages::Refuse, (Ending::Invalid(0), "", 0)),
+        (DamagedPages::Zero, (Ending::Pages, "zeroed page 1 0\n", 0)),
     ];
     for (name, method) in METHODS {
-        for (zero, wanted) in rows {
+        for (damaged, wanted) in rows {
             let settings = ScanSettings {
                 method,
-                zero,
+                damaged,
                 ..USUAL
             };
             let shelf = shelf_with(rt.alloc(), bytes_of(rt.alloc(), &[BAD])?, &[])?;

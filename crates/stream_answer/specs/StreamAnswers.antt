@@ -1,5 +1,7 @@
 -- What a stream answers, in the words of synchronous reads.
-use Rattle.std.specs.Prelude.{◌≡◌, ℕ, Bool, true, false, List, map, ⊤}
+use Rattle.std.specs.Prelude.{ℕ, List, map}
+use Rattle.page_check.specs.declared.rules.PageMark.{PageMark}
+use Rattle.page_check.specs.declared.rules.PageMark.TheVariants.{Valid, Zeroed, Damaged}
 use Rattle.page_check.specs.SynchronousAnswer.{Entry}
 use Rattle.page_check.specs.SynchronousAnswer.{End as SaidEnd, Invalid as SaidInvalid}
 use Rattle.page_check.specs.SynchronousAnswer.{PastEnd as SaidPastEnd, Unread as SaidUnread}
@@ -16,20 +18,22 @@ abbrev pub stream_entries : {P : Type 0} → ℕ → List (ℕ × P) → List (E
 stream_entries relation list = map (stream_entry relation) list
 
 module _ {P : Type 0} where
-  -- the page that was given for the block, and whether it was zeroed
-  abbrev pub page_answer : ℕ → ℕ → P → List ℕ → Bool → Said P
-  page_answer relation block info page zeroed = SaidPage (record {
+  -- the page that was given for the block, with its mark
+  abbrev pub page_answer : ℕ → ℕ → P → List ℕ → PageMark → Said P
+  page_answer relation block info page mark = SaidPage (record {
     entry = stream_entry relation (block, info);
     page = page;
-    zeroed = zeroed;
+    mark = mark;
   })
 
   -- the answer, in the words of synchronous reads
   abbrev pub synchronous_answer : ℕ → Next P → Said P
   synchronous_answer relation (next.Page page block info) = page_answer relation block info.now
-      page.now false
+      page.now Valid
   synchronous_answer relation (next.Zeroed page block info) = page_answer relation block info.now
-      page.now true
+      page.now Zeroed
+  synchronous_answer relation (next.Damaged page block info) = page_answer relation block info.now
+      page.now Damaged
   synchronous_answer relation next.End = SaidStop SaidEnd
   synchronous_answer relation (next.Invalid block) = SaidStop (SaidInvalid block)
   synchronous_answer relation (next.Unread block) = SaidStop (SaidUnread block)
@@ -39,8 +43,3 @@ module _ {P : Type 0} where
   abbrev pub pages_given : Said P → ℕ
   pages_given (SaidPage given) = 1
   pages_given (SaidStop end) = 0
-
-  -- this holds where the answer gives a page that was zeroed
-  abbrev pub IfZeroed : Said P → Type 0 → Type 0
-  IfZeroed (SaidPage given) holds = given.zeroed ≡ true → holds
-  IfZeroed (SaidStop end) holds = ⊤

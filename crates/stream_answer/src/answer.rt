@@ -9,9 +9,11 @@ pub enum Next<'s, P> {
     Page(&'s Page, u32, &'s P),
     /// The same of a page that is not valid and was set to zeros.
     Zeroed(&'s Page, u32, &'s P),
+    /// The same of a page that is not valid and is given as it is.
+    Damaged(&'s Page, u32, &'s P),
     /// The source has no further block.
     End,
-    /// The page of this block is not valid.
+    /// The page of this block is not valid, and is not given.
     Invalid(u32),
     /// The block could not be read.
     Unread(u32),

@@ -3,7 +3,7 @@
 use crate::helpers::answers::Answer;
 use crate::helpers::cases::{BY_HEADER, Blocks, CASE, Case, FULL, SETTINGS, VERIFIED};
 use crate::helpers::rows::{ROW, Row, check_rows};
-use page_check::PageRules;
+use page_check::{DamagedPages, PageRules};
 use read_stream::Settings;
 use std::test::Fail;
 
@@ -12,12 +12,14 @@ const VERIFYING: Settings = Settings {
     ..FULL
 };
 
-const ZEROING: Settings = Settings {
-    rules: PageRules {
-        zero: true,
-        ..VERIFIED
-    },
-    ..FULL
+const ZEROING: PageRules = PageRules {
+    damaged: DamagedPages::Zero,
+    ..VERIFIED
+};
+
+const GIVING: PageRules = PageRules {
+    damaged: DamagedPages::Give,
+    ..VERIFIED
 };
 
 const NOT_VERIFYING: Settings = Settings {
@@ -25,7 +27,7 @@ const NOT_VERIFYING: Settings = Settings {
     ..FULL
 };
 
-/// Five blocks that an earlier stream has read. Block 2 has the checksum of another block.
+/// Five blocks that an earlier stream has read. Block 2 has another checksum than it is to have.
 const WRONG: Case<'static> = Case {
     blocks: 5,
     wrong_checksum: Some(2),
@@ -44,7 +46,7 @@ const RIGHT: Case<'static> = Case {
 // Each stream reads the five blocks by one read.
 const TWICE: [(u32, u32); 2] = [(0, 5), (0, 5)];
 
-const SHARED: [Row<'static>; 7] = [
+const SHARED: [Row<'static>; 4] = [
     Row {
         name: "a page that was checked by its header alone is read again",
         case: RIGHT,
@@ -57,7 +59,7 @@ const SHARED: [Row<'static>; 7] = [
         name: "and so is one that was verified, for who does not verify",
         case: Case {
             settings: NOT_VERIFYING,
-            others_verify: true,
+            others: VERIFIED,
             ..RIGHT
         },
         pages: 5,
@@ -68,7 +70,7 @@ const SHARED: [Row<'static>; 7] = [
     Row {
         name: "pages that were verified come from the pool",
         case: Case {
-            others_verify: true,
+            others: VERIFIED,
             ..RIGHT
         },
         pages: 5,
@@ -84,11 +86,15 @@ const SHARED: [Row<'static>; 7] = [
         reads: Some(&TWICE),
         ..ROW
     },
+];
+
+// The same, where one of the streams has met a wrong checksum.
+const SHARED_BEHIND_DAMAGE: [Row<'static>; 3] = [
     Row {
         name: "the other gives a page at which the stream that verifies has ended",
         case: Case {
             settings: NOT_VERIFYING,
-            others_verify: true,
+            others: VERIFIED,
             ..WRONG
         },
         pages: 5,
@@ -98,7 +104,10 @@ const SHARED: [Row<'static>; 7] = [
     Row {
         name: "a page that the other has given is zeroed",
         case: Case {
-            settings: ZEROING,
+            settings: Settings {
+                rules: ZEROING,
+                ..FULL
+            },
             ..WRONG
         },
         pages: 5,
@@ -108,12 +117,74 @@ const SHARED: [Row<'static>; 7] = [
     Row {
         name: "a page with a wrong checksum is not kept in the pool",
         case: Case {
-            settings: ZEROING,
-            others_verify: true,
+            settings: Settings {
+                rules: ZEROING,
+                ..FULL
+            },
+            others: ZEROING,
             ..WRONG
         },
         pages: 5,
         reads: Some(&[(0, 5), (2, 1)]),
+        taken: Some(1),
+        ..ROW
+    },
+];
+
+// The same with damaged pages given as they are.
+const SHARED_WITH_DAMAGED: [Row<'static>; 4] = [
+    Row {
+        name: "a page that the other has given as valid is given as damaged",
+        case: Case {
+            settings: Settings {
+                rules: GIVING,
+                ..FULL
+            },
+            ..WRONG
+        },
+        pages: 5,
+        reads: Some(&TWICE),
+        ..ROW
+    },
+    Row {
+        name: "a page that was given with a wrong checksum is not kept in the pool",
+        case: Case {
+            settings: Settings {
+                rules: GIVING,
+                ..FULL
+            },
+            others: GIVING,
+            ..WRONG
+        },
+        pages: 5,
+        reads: Some(&[(0, 5), (2, 1)]),
+        taken: Some(1),
+        ..ROW
+    },
+    Row {
+        name: "the stream that refuses it ends there",
+        case: Case {
+            others: GIVING,
+            ..WRONG
+        },
+        pages: 2,
+        end: Answer::Invalid(2),
+        reads: Some(&[(0, 5), (2, 1)]),
+        ..ROW
+    },
+    Row {
+        name: "pages are damaged by their header and by their checksum",
+        case: Case {
+            damaged: &[4],
+            settings: Settings {
+                rules: GIVING,
+                ..FULL
+            },
+            first: Blocks::These(&[]),
+            ..WRONG
+        },
+        pages: 5,
+        reads: Some(&[(0, 5)]),
         taken: Some(1),
         ..ROW
     },
@@ -146,7 +217,7 @@ const UNDER_WAY: [Row<'static>; 2] = [
                 rules: VERIFIED,
                 ..SETTINGS
             },
-            others_verify: true,
+            others: VERIFIED,
             other: Some(Blocks::These(&[])),
             list: Blocks::From(0, 3),
             ..CASE
@@ -161,6 +232,16 @@ const UNDER_WAY: [Row<'static>; 2] = [
 #[test]
 fn streams_that_verify_and_that_do_not(rt: HostRuntime) -> Result<(), Fail> {
     check_rows(&rt, SHARED.as_slice())
+}
+
+#[test]
+fn streams_behind_a_wrong_checksum(rt: HostRuntime) -> Result<(), Fail> {
+    check_rows(&rt, SHARED_BEHIND_DAMAGE.as_slice())
+}
+
+#[test]
+fn streams_that_verify_and_give_damaged_pages(rt: HostRuntime) -> Result<(), Fail> {
+    check_rows(&rt, SHARED_WITH_DAMAGED.as_slice())
 }
 
 #[test]

@@ -1,80 +1,13 @@
-//! Reads that fail or are short, and damaged pages.
+//! Reads that fail or are short.
 
 use crate::helpers::answers::Answer;
-use crate::helpers::cases::{BY_HEADER, Blocks, CASE, Case, FULL, SETTINGS};
+use crate::helpers::cases::{Blocks, CASE, Case, FULL, SETTINGS};
 use crate::helpers::rows::{ROW, Row, check_rows};
-use page_check::PageRules;
 use page_fixtures::files::{Faults, STEADY};
 use read_stream::Settings;
 use std::test::Fail;
 
-const ZEROING: Settings = Settings {
-    rules: PageRules {
-        zero: true,
-        ..BY_HEADER
-    },
-    ..FULL
-};
-
-const DAMAGED: [Row<'static>; 7] = [
-    Row {
-        name: "full look-ahead stops at a bad page",
-        case: Case {
-            blocks: 14,
-            damaged: Some(12),
-            settings: FULL,
-            list: Blocks::From(10, 4),
-            ..CASE
-        },
-        pages: 2,
-        end: Answer::Invalid(12),
-        reads: Some(&[(10, 4)]),
-        ..ROW
-    },
-    Row {
-        name: "a damaged page is given as zeros, and not kept in the pool",
-        case: Case {
-            blocks: 5,
-            damaged: Some(2),
-            settings: ZEROING,
-            first: Blocks::From(0, 5),
-            list: Blocks::From(0, 5),
-            ..CASE
-        },
-        pages: 5,
-        reads: Some(&[(0, 5), (2, 1)]),
-        ..ROW
-    },
-    Row {
-        name: "a damaged page ends the stream",
-        case: Case {
-            blocks: 5,
-            damaged: Some(2),
-            settings: FULL,
-            list: Blocks::From(0, 5),
-            ..CASE
-        },
-        pages: 2,
-        end: Answer::Invalid(2),
-        ..ROW
-    },
-    Row {
-        name: "a short read with a damaged page is taken up",
-        case: Case {
-            blocks: 5,
-            damaged: Some(1),
-            faults: Faults {
-                shorts: &[3],
-                ..STEADY
-            },
-            settings: ZEROING,
-            list: Blocks::From(0, 5),
-            ..CASE
-        },
-        pages: 5,
-        reads: Some(&[(0, 5), (3, 2)]),
-        ..ROW
-    },
+const SHORT: [Row<'static>; 3] = [
     Row {
         name: "short reads are taken up",
         case: Case {
@@ -201,8 +134,8 @@ const FAILED: [Row<'static>; 4] = [
 ];
 
 #[test]
-fn damaged_pages_and_short_reads(rt: HostRuntime) -> Result<(), Fail> {
-    check_rows(&rt, DAMAGED.as_slice())
+fn short_reads(rt: HostRuntime) -> Result<(), Fail> {
+    check_rows(&rt, SHORT.as_slice())
 }
 
 #[test]

@@ -10,6 +10,8 @@ mod batches;
 #[cfg(test)]
 mod checksums;
 #[cfg(test)]
+mod damaged;
+#[cfg(test)]
 mod distances;
 #[cfg(test)]
 mod faults;

@@ -29,7 +29,7 @@ const TWO_RUNS: Case<'static> = Case {
     ..CASE
 };
 
-const ROWS: [Row<'static>; 9] = [
+const ROWS: [Row<'static>; 5] = [
     Row {
         name: "runs grow with the distance",
         case: Case {
@@ -98,6 +98,10 @@ const ROWS: [Row<'static>; 9] = [
         heard: Some(3),
         ..ROW
     },
+];
+
+// Further ones.
+const FURTHER_ROWS: [Row<'static>; 4] = [
     Row {
         name: "the method hears of a last read that is not yet known to be the last",
         case: Case {
@@ -254,6 +258,11 @@ const MANY: [Row<'static>; 5] = [
 #[test]
 fn runs_that_are_read(rt: HostRuntime) -> Result<(), Fail> {
     check_rows(&rt, ROWS.as_slice())
+}
+
+#[test]
+fn further_runs_that_are_read(rt: HostRuntime) -> Result<(), Fail> {
+    check_rows(&rt, FURTHER_ROWS.as_slice())
 }
 
 #[test]

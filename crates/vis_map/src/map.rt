@@ -1,6 +1,5 @@
 //! A map in memory.
 ghost use Rattle.std.specs.Prelude.{◌≡◌, ◌++◌, ◌∷◌, [], ◌+◌, ◌≤◌, ◌<◌, length, IfOk};
-ghost use Rattle.page_check.specs.Verdict.{IsValid};
 ghost use Rattle.vis_map.specs.Bits.{block_bits, page_bits, is_marked};
 
 use page_check::Page;
@@ -77,10 +76,9 @@ impl VisMap {
         self.pages.len() as u32
     }
 
-    /// Adds the next page, a valid one.
+    /// Adds the next page. Any page will do.
     pub fn add(&mut self, page: &Page)
-        requires valid { IsValid page.now }
-        requires room { length self.old.added < self.old.pages }
+        requires { length self.old.added < self.old.pages }
         ensures { self.new ≡ record {
           pages = self.old.pages;
           added = self.old.added ++ page.now ∷ [];

@@ -4,31 +4,31 @@ ghost use Rattle.std.specs.Prelude.{nat_lt, option_map, if◌then◌else◌, Opt
 ghost use Rattle.page_check.specs.Told.{Told};
 ghost use Rattle.aio_word.specs.declared.Class.TheVariants.{Unended};
 ghost use Rattle.read_callbacks.specs.CallbackCounts.{counts_after};
-ghost use Rattle.read_callbacks.specs.Chain.{good_count};
+ghost use Rattle.read_callbacks.specs.Chain.{good_count, is_marked};
 
 use super::{ReadIo, fill_room};
 use aio_word::WaitRef;
-use page_check::{Page, World};
+use page_check::{Page, PageMark, World};
 use read_callbacks::{Counts, Places, first_result, run_chain, run_local};
 use std::sync::Wait;
 
 impl ReadIo {
-    ghost use Rattle.aio_callback.specs.ReadIoView.{record_page, record_zeroed, record_aim};
+    ghost use Rattle.aio_callback.specs.ReadIoView.{record_page, record_mark, record_aim};
     ghost use Rattle.aio_callback.specs.ReadIoView.{HasAnswer, ReadFits};
     ghost use Rattle.aio_callback.specs.ReadIoView.{AllGood, IsAfterShared, after_local};
     ghost use Rattle.aio_callback.specs.ReadIoView.{IsCompletedRead};
     ghost use Rattle.read_callbacks.specs.Finishes.{FinishesGrew};
     ghost use Rattle.aio_callback.specs.Finishes.{all_finishes};
 
-    // The page of a block, where it is good and was not zeroed.
+    // The page of a block, where it is good and not marked.
     fn page_if(&self, index: u32, good: u32) -> Option<&Page>
         requires ended { self.now.label.ended ≢ Unended }
         requires room { good ≤ length self.now.pages }
         ensures { option_map (λ p. p.now) result
-            ≡ (if nat_lt index good && not (record_zeroed self.now index)
+            ≡ (if nat_lt index good && not (is_marked (record_mark self.now index))
             then Some (record_page self.now index) else None) }
     {
-        if index < good && !self.zeroed[index as usize] {
+        if index < good && matches!(self.marks[index as usize], PageMark::Valid) {
             Some(&self.pages[index as usize])
         } else {
             None
@@ -48,21 +48,21 @@ impl ReadIo {
             unreachable!()
         };
         fill_room(&mut self.pages, self.room);
-        self.zeroed.fill(false);
+        self.marks.fill(PageMark::Valid);
         self.result = run_chain(
             &self.ids[..self.id_count],
             self.checksums,
             self.first,
             self.count,
             self.pages.as_mut_slice(),
-            self.zeroed.as_mut_slice(),
+            self.marks.as_mut_slice(),
             first_result(answer),
         );
         self.label.ended = answer.class(self.count);
         self.label.settled = false;
     }
 
-    // Hands each block over, with its page where it is good and was not zeroed.
+    // Hands each block over, with its page where it is good and not marked.
     fn finish_all<W: World, P: Places<W>, T: Wait>(&self, rt: &T, places: &mut P)
         requires ended { self.now.label.ended ≢ Unended }
         requires few { good_count self.now.ids self.now.result ≤ length self.now.pages }

@@ -8,7 +8,7 @@ use clap::{Arg, ArgAction, Command};
 use std::alloc::{AllocError, Global};
 
 // The options with a value.
-const OPTIONS: [&str; 12] = [
+const OPTIONS: [&str; 14] = [
     "method",
     "workers",
     "backends",
@@ -21,16 +21,20 @@ const OPTIONS: [&str; 12] = [
     "make",
     "map",
     "skip",
+    "end-lsn",
+    "next-xid",
 ];
 
 // The flags.
-const FLAGS: [&str; 6] = [
+const FLAGS: [&str; 8] = [
     "batch",
     "full",
     "stats",
     "checksums",
     "zero-damaged",
     "tuples",
+    "check",
+    "show-damaged",
 ];
 
 fn option<'a>(alloc: Global, name: &'a str) -> Arg<'a>

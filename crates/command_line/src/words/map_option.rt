@@ -51,10 +51,7 @@ pub fn map_given<'a>(matches: &ArgMatches<'a>) -> Option<Option<MapOption<'a>>>
         ≡ parsed_map (rows_of (found_of matches.now)) }
 {
     let Some(name) = text_of(matches, "map") else {
-        return match text_of(matches, "skip") {
-            None => Some(None),
-            Some(_) => None,
-        };
+        return Some(None);
     };
     match texts_of(matches, "FILE") {
         Some([file]) => map_named(file, name, skip(matches)),

@@ -10,7 +10,6 @@ use Rattle.std.proofs.lemmas.List.Sums.{sum_by-cons}
 use Rattle.page_check.specs.SynchronousAnswer.{reading_of}
 use Rattle.page_check.specs.IsAnswer.{IsAnswer}
 use Rattle.heap_scan.specs.Job.{endings_of}
-use Rattle.heap_tuple.specs.Listing.{text_with}
 use Rattle.page_check.specs.declared.rules.PageRules.{PageRules}
 use Rattle.page_check.specs.declared.world.World.{Ghosts as WorldGhosts}
 use Rattle.aio_disk.specs.declared.disk.Disk.{Ghosts as DiskGhosts}
@@ -30,6 +29,8 @@ use Rattle.scan_jobs.specs.Jobs.{JobIsListed, JobOutline, answered_ending}
 use Rattle.scan_jobs.specs.Jobs.{ended_jobs, entries_of_job, entries_of_jobs, is_unread}
 use Rattle.scan_jobs.specs.Jobs.{IsNewJob, count_unskipped, job_outline}
 use Rattle.scan_settings.specs.ListOptions.{list_options}
+use Rattle.scan_settings.specs.PageFormats.{page_format}
+use Rattle.scan_settings.specs.declared.page_text.PageText.{PageText}
 use Rattle.scan_rounds.specs.declared.backend.Backend.{Backend}
 use Rattle.scan_rounds.specs.declared.disk_actor.DiskActor.{DiskActor}
 use Rattle.scan_jobs.specs.declared.source.Blocks.{Blocks}
@@ -85,15 +86,15 @@ module _ {W D : Type 0} (m : DiskGhosts D) (world : WorldGhosts W) (t : TableVie
       let same = ap failed_result_count went.marks in omega arith
 
   -- an actor that read the blocks of jobs, which took their pages, has listed the jobs
-  pub by_text : (tuples : Bool) (h k : DiskActor W D) (d e : Desk W (Unit {0})) (b : Blocks)
+  pub by_text : (page_text : PageText) (h k : DiskActor W D) (d e : Desk W (Unit {0})) (b : Blocks)
       (js ls : List Job) (taken : ℕ) (end : Ending) → IsStreamOfJobs b js
       → All (IsNewJob world.relations) js → map job_outline ls ≡ map job_outline js
-      → ActorReadBlocks m world t (HaveTaken (text_with tuples) taken ls) h k d e b end
-      → ActorListedJobs m world t (filter_of_skipping b.by_map) tuples h k d e js
+      → ActorReadBlocks m world t (HaveTaken (page_format page_text) taken ls) h k d e b end
+      → ActorListedJobs m world t (filter_of_skipping b.by_map) page_text h k d e js
       (ended_jobs ls taken end)
-  by_text tuples h k d e b js ls taken end stream fresh same read =
+  by_text page_text h k d e b js ls taken end stream fresh same read =
       let f = filter_of_skipping b.by_map in
-      let how = list_options d.settings.rules tuples in
+      let how = list_options d.settings.rules page_text in
       let may : E → Type 0 = MayBeUnread h.actor k.actor.known in
       let given = read.given in
       let unended = new_jobs_not_ended world.relations js fresh in

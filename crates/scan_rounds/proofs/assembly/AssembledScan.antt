@@ -1,7 +1,7 @@
 -- What was made of the parts of a new scan.
 use Rattle.std.proofs.Common.{◌≡◌, ℕ, ◌+◌, ◌-◌, ◌^◌, ◌<◌, ◌≤◌, List, [], length, refl, sym, ap}
 use Rattle.std.proofs.Common.{◌∙◌, subst, arith}
-use Rattle.std.specs.Prelude.{IfSome, Bool, vec_capacity, is_some, cond}
+use Rattle.std.specs.Prelude.{IfSome, vec_capacity, is_some, cond}
 use Rattle.std.specs.List.{All}
 use Rattle.std.specs.Vec.Iter.{into_iter_items}
 use Rattle.page_check.specs.declared.rules.PageRules.{PageRules}
@@ -24,6 +24,7 @@ use Rattle.scan_rounds.specs.declared.backend.Backend.{Backend}
 use Rattle.scan_rounds.specs.declared.open.Parts.{Parts}
 use Rattle.scan_rounds.specs.declared.worker.Worker.{Worker}
 use Rattle.scan_rounds.specs.declared.scan.Scan.{Scan}
+use Rattle.scan_settings.specs.declared.page_text.PageText.{PageText}
 use Rattle.scan_settings.specs.declared.settings.ScanSettings.{ScanSettings}
 use Rattle.scan_rounds.proofs.assembly.PartsGiven.{all_at, some_at, behind, disk_actor_behind}
 use Rattle.scan_rounds.proofs.assembly.NewDiskActors.{AreNewDiskActors, new_disk_actor}
@@ -32,7 +33,8 @@ use Rattle.scan_rounds.proofs.assembly.NewDiskActors.{none_taken, paid_of_new, b
 use Rattle.scan_rounds.proofs.assembly.NewDiskActors.{workers_of_new}
 use Rattle.scan_rounds.proofs.assembly.SeatsAndRings.{beside_workers, has_wanted}
 
-same_options : {a b : PageRules} {c d : Bool} → a ≡ b → c ≡ d → list_options a c ≡ list_options b d
+same_options : {a b : PageRules} {c d : PageText} → a ≡ b → c ≡ d
+    → list_options a c ≡ list_options b d
 same_options same also = rw (same, also) refl
 
 module _ {W D : Type 0} where
@@ -50,13 +52,13 @@ module _ {W D : Type 0} where
     pub opened : opened_disks s ≡ into_iter_items p.disks
     pub disks_are : length (into_iter_items p.disks) ≡ settings.backends
         + workers_of_settings settings
-    pub backends : GivesBackends settings.tuples p q s.backends.items
+    pub backends : GivesBackends settings.page_text p q s.backends.items
     pub backends_are : length s.backends.items ≡ settings.backends
     pub workers : GivesWorkers q r s.workers.items
     pub workers_are : length s.workers.items ≡ workers_of_settings settings
     pub room : s.room ≡ 2 ^ 58 - 1 - start
     pub unread : s.unread ≡ 0
-    pub options_are : scan_options s ≡ list_options (page_rules settings) settings.tuples
+    pub options_are : scan_options s ≡ list_options (page_rules settings) settings.page_text
     pub actors_fit : (s.actors.items ≡ [])
         × (settings.backends + workers_of_settings settings ≤ vec_capacity s.actors)
     pub disks_fit : (s.disks.items ≡ [])
@@ -170,7 +172,7 @@ module _ {W D : Type 0} where
             counters_are = paid_of_new t (opened_disks s) bs ws all_new m world
                 disks_as_many;
             all_have_options = λ k b lt. same_options (all_desks k b lt).streams.rules
-                (made.backends.each k b lt).tuples_are ∙ sym made.options_are;
+                (made.backends.each k b lt).page_text_is ∙ sym made.options_are;
             room = subst P same rooms;
             few_unread = omega (arith, none);
             no_actors = made.actors_fit.0;

@@ -1,7 +1,7 @@
 -- The parts of backends and workers, and what was made of them.
 use Rattle.std.proofs.Common.{◌≡◌, ℕ, zero, suc, ◌+◌, ◌-◌, ◌<◌, List, [], ◌∷◌, ◌++◌, length}
 use Rattle.std.proofs.Common.{refl, sym, ap, ◌∙◌, subst, arith, length-append}
-use Rattle.std.specs.Prelude.{Option, Some, None, IfSome, Bool, drop, slice_get, slice_index_or}
+use Rattle.std.specs.Prelude.{Option, Some, None, IfSome, drop, slice_get, slice_index_or}
 use Rattle.std.specs.List.{All}
 use Rattle.std.specs.Vec.Iter.{into_iter_items}
 use Rattle.std.proofs.lemmas.List.{drop-drop, length-drop}
@@ -15,6 +15,7 @@ use Rattle.scan_rounds.specs.OpenedScan.{GivesBackends, GivesWorkers}
 use Rattle.scan_rounds.specs.declared.backend.Backend.{Backend}
 use Rattle.scan_rounds.specs.declared.disk_actor.DiskActor.{DiskActor}
 use Rattle.scan_rounds.specs.declared.open.Parts.{Parts}
+use Rattle.scan_settings.specs.declared.page_text.PageText.{PageText}
 use Rattle.scan_settings.specs.declared.settings.ScanSettings.{ScanSettings}
 use Rattle.scan_rounds.specs.declared.worker.Worker.{Worker}
 
@@ -93,21 +94,21 @@ module _ {W D : Type 0} where
 
   module _ (p q r : Parts W D) where
     -- one more at the end of the list
-    pub backends_more : (tuples : Bool) (bs all : List (Backend W D)) (b : Backend W D)
-        → all ≡ bs ++ b ∷ [] → GivesBackends tuples p q bs → IsBackendOf tuples q 0 b
-        → IsLeftByBackends 1 q r → GivesBackends tuples p r all
-    backends_more tuples bs all b e g is left =
+    pub backends_more : (page_text : PageText) (bs all : List (Backend W D)) (b : Backend W D)
+        → all ≡ bs ++ b ∷ [] → GivesBackends page_text p q bs → IsBackendOf page_text q 0 b
+        → IsLeftByBackends 1 q r → GivesBackends page_text p r all
+    backends_more page_text bs all b e g is left =
         let n : ℕ = length bs in
         let others = g.left_are.others in
         let at : n + 0 ≡ n = omega arith in
         let many : n + 1 ≡ length (bs ++ b ∷ []) = sym (length-append bs (b ∷ [])) in
-        subst (λ (l : List (Backend W D)). GivesBackends tuples p r l) (sym e) record {
-          each = each_more (λ k c. IsBackendOf tuples p k c) bs b g.each record {
+        subst (λ (l : List (Backend W D)). GivesBackends page_text p r l) (sym e) record {
+          each = each_more (λ k c. IsBackendOf page_text p k c) bs b g.each record {
             disk_actor = disk_actor_behind p q r n others 0 n b.disk_actor at is.disk_actor;
             desk = behind _ _ n 0 n _ g.left_are.desks at is.desk;
             seat = behind _ _ n 0 n _ others.seats at is.seat;
             ring = behind _ _ n 0 n _ g.left_are.rings at is.ring;
-            tuples_are = is.tuples_are;
+            page_text_is = is.page_text_is;
           };
           left_are = record {
             others = left_more p q r n others left.others _ many;
@@ -140,8 +141,8 @@ module _ {W D : Type 0} where
       → length (into_iter_items r.desks) ≡ length (into_iter_items p.desks) - n
   left_by_backends p r n left = left_count _ _ n left.desks
 
-  pub no_backends : (tuples : Bool) (p : Parts W D) → GivesBackends tuples p p []
-  no_backends tuples p = record {
+  pub no_backends : (page_text : PageText) (p : Parts W D) → GivesBackends page_text p p []
+  no_backends page_text p = record {
     each = λ k b lt. absurd (omega (arith, lt));
     left_are = record {
       others = record { actors = refl; disks = refl; seats = refl };

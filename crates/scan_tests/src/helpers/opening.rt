@@ -7,8 +7,8 @@ ghost use Rattle.scan_settings.specs.Settings.{AreValidScanSettings, required_di
 ghost use Rattle.scan_rounds.specs.Scans.{IsScan};
 
 use aio_disk::{Disk, Shelf};
-use page_check::World;
-use scan_rounds::{MethodKind, Scan, ScanSettings};
+use page_check::{DamagedPages, World};
+use scan_rounds::{MethodKind, PageText, Scan, ScanSettings};
 use std::alloc::Global;
 use std::test::Fail;
 
@@ -25,8 +25,8 @@ pub(crate) const USUAL: ScanSettings = ScanSettings {
     full: false,
     segment: 131072,
     checksums: false,
-    zero: false,
-    tuples: false,
+    damaged: DamagedPages::Refuse,
+    page_text: PageText::Items,
 };
 
 /// Each method with its name.
@@ -64,8 +64,8 @@ pub(crate) fn is_in_range(settings: &ScanSettings) -> bool
         full: _,
         segment,
         checksums: _,
-        zero: _,
-        tuples: _,
+        damaged: _,
+        page_text: _,
     } = *settings;
     let actors = 1 <= workers && workers <= 32 && 1 <= backends && backends <= 16;
     let reads = 1 <= combine && combine <= 128 && 1 <= concurrency && concurrency <= 256;

@@ -2,8 +2,10 @@
 ghost use Rattle.std.specs.Prelude.{◌≡◌, ◌≤◌, IsTrue};
 ghost use Rattle.read_stream.specs.Desks.{AreValidSettings};
 
-use page_check::PageRules;
+use page_check::{DamagedPages, Page, PageRules, header};
+use page_fixtures::checksums::with_checksum;
 use page_fixtures::files::{Faults, STEADY};
+use page_fixtures::pages::numbered_page;
 use read_stream::Settings;
 use std::alloc::{AllocError, Global};
 
@@ -41,10 +43,10 @@ impl Blocks<'_> {
 /// One stream over one file.
 #[derive(Clone, Copy)]
 pub(crate) struct Case<'a> {
-    /// How many blocks the file has, and which of them is damaged.
+    /// How many blocks the file has, and which of them are damaged.
     pub blocks: u32,
-    pub damaged: Option<u32>,
-    /// Which of them has a sane header, and the checksum of another block.
+    pub damaged: &'a [u32],
+    /// Which of them has a sane header, and another checksum than it is to have.
     pub wrong_checksum: Option<u32>,
     pub faults: Faults<'a>,
     /// The relation that the file is, 0 or 1. The other one has a single page, which is damaged.
@@ -52,8 +54,8 @@ pub(crate) struct Case<'a> {
     pub handles: u32,
     pub frames: u32,
     pub settings: Settings,
-    /// Whether the earlier stream and the other backend verify checksums.
-    pub others_verify: bool,
+    /// How the earlier stream and the other backend read.
+    pub others: PageRules,
     /// What another backend has read before it submitted a read of block 0, which nobody has
     /// claimed. Without it no other backend reads.
     pub other: Option<Blocks<'a>>,
@@ -68,13 +70,25 @@ pub(crate) struct Case<'a> {
 /// Pages are checked by their header alone, and a damaged one ends the stream.
 pub(crate) const BY_HEADER: PageRules = PageRules {
     checksums: false,
-    zero: false,
+    damaged: DamagedPages::Refuse,
 };
 
 /// Their checksums are verified too.
 pub(crate) const VERIFIED: PageRules = PageRules {
     checksums: true,
-    zero: false,
+    ..BY_HEADER
+};
+
+/// By their header alone, and zeros are given for a damaged one.
+pub(crate) const ZEROING: PageRules = PageRules {
+    damaged: DamagedPages::Zero,
+    ..BY_HEADER
+};
+
+/// By their header alone, and a damaged one is given as it is.
+pub(crate) const GIVING: PageRules = PageRules {
+    damaged: DamagedPages::Give,
+    ..BY_HEADER
 };
 
 pub(crate) const SETTINGS: Settings = Settings {
@@ -94,14 +108,14 @@ pub(crate) const FULL: Settings = Settings {
 
 pub(crate) const CASE: Case<'static> = Case {
     blocks: 0,
-    damaged: None,
+    damaged: &[],
     wrong_checksum: None,
     faults: STEADY,
     relation: 0,
     handles: 16,
     frames: 128,
     settings: SETTINGS,
-    others_verify: false,
+    others: BY_HEADER,
     other: None,
     between: None,
     pause: 1,
@@ -110,26 +124,33 @@ pub(crate) const CASE: Case<'static> = Case {
 };
 
 impl Case<'_> {
-    /// The settings of the earlier stream and of the other backend.
+    /// The case with the settings of the earlier stream and of the other backend.
     pub(crate) fn of_others(&self) -> Self
         ensures settings { AreValidSettings self.now.settings → AreValidSettings result.settings }
         ensures relation { result.relation ≡ self.now.relation }
     {
         let Case {
-            others_verify,
+            others,
             settings,
             ..
         } = *self;
         Case {
             settings: Settings {
-                rules: PageRules {
-                    checksums: others_verify,
-                    ..settings.rules
-                },
+                rules: others,
                 ..settings
             },
             ..*self
         }
+    }
+
+    /// The page of a block in the file. That with a wrong checksum has the next number.
+    pub(crate) fn page_of(&self, block: u32) -> Page {
+        let page = numbered_page(block, self.damaged.contains(&block));
+        if self.wrong_checksum != Some(block) {
+            return page;
+        }
+        let sum = header(&page).checksum.wrapping_add(1);
+        with_checksum(page, sum)
     }
 }
 

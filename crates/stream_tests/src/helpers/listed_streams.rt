@@ -6,6 +6,7 @@ ghost use Rattle.aio_handle.specs.ContractViews.{IsActorOf, IsSameActor};
 ghost use Rattle.method_worker.specs.QueueViews.{IsSeatOf};
 ghost use Rattle.read_stream.specs.StreamState.{IsOpenFor};
 
+use crate::helpers::cases::BY_HEADER;
 use aio_batch::Method;
 use aio_callback::ReadIo;
 use aio_handle::{Actor, Execute, Table};
@@ -13,7 +14,7 @@ use block_source::Listed;
 use buf_pool::Pool;
 use fault_injection::MemShelf;
 use method_worker::{QueueSeat, SubmitQueue};
-use page_check::{PageRules, World};
+use page_check::World;
 use page_fixtures::files::{STEADY, one_file, shelf_of};
 use page_fixtures::pages::numbered_pages;
 use read_stream::{Desk, Next, ReadStream, Settings};
@@ -28,10 +29,7 @@ const SETTINGS: Settings = Settings {
     full: false,
     batch: false,
     segment: 131072,
-    rules: PageRules {
-        checksums: false,
-        zero: false,
-    },
+    rules: BY_HEADER,
 };
 
 /// A block, and what is noted beside it.

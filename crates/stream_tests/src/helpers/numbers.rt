@@ -1,7 +1,7 @@
 //! Numbers that look random.
 ghost use Rattle.std.specs.Prelude.{◌<◌, ◌≤◌};
 
-use page_check::PageRules;
+use page_check::{DamagedPages, PageRules};
 use read_stream::Settings;
 use std::alloc::Global;
 use std::test::Fail;
@@ -38,6 +38,17 @@ impl Numbers {
         }
     }
 
+    /// Up to two of so many blocks.
+    pub(crate) fn some_of(&mut self, alloc: Global, blocks: u32) -> Result<Vec<u32>, Fail>
+        requires { 0 < blocks }
+    {
+        let mut some = Vec::new(alloc);
+        for _ in 0..self.below(3) {
+            some.push(self.below(blocks))?;
+        }
+        Ok(some)
+    }
+
     /// The segment size that PostgreSQL has by default, or a small one.
     fn segment(&mut self) -> u32
         ensures { 1 ≤ result }
@@ -46,6 +57,17 @@ impl Numbers {
             131072
         } else {
             1 + self.below(6)
+        }
+    }
+
+    pub(crate) fn rules(&mut self) -> PageRules {
+        PageRules {
+            checksums: self.flag(),
+            damaged: match self.below(3) {
+                0 => DamagedPages::Refuse,
+                1 => DamagedPages::Zero,
+                _ => DamagedPages::Give,
+            },
         }
     }
 
@@ -59,10 +81,7 @@ impl Numbers {
             full: self.flag(),
             batch: self.flag(),
             segment: self.segment(),
-            rules: PageRules {
-                checksums: self.flag(),
-                zero: self.flag(),
-            },
+            rules: self.rules(),
         }
     }
 

@@ -70,7 +70,7 @@ pub(crate) fn read_before<W: World, E: Execute<ReadIo, W>, T: Wait>(
     let others = case.of_others();
     stream_over(rt, alloc, &others, calls, pool, table, actor, runner, list)?;
     let io = ReadIo::make(alloc, 1)?;
-    let verify = case.others_verify;
+    let verify = case.others.checksums;
     submit_other(rt, case.relation, verify, pool, table, actor, io);
     Ok(())
 }

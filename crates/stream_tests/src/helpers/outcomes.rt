@@ -13,8 +13,7 @@ use aio_handle::Table;
 use buf_pool::Pool;
 use fault_injection::{MemDisk, MemShelf};
 use method_sync::Runner;
-use page_check::{PAGE_SIZE, World};
-use page_fixtures::checksums::{CHECKSUM, plain_checksum};
+use page_check::World;
 use page_fixtures::files::{one_file, open_disk, shelf_of};
 use page_fixtures::pages::numbered_pages;
 use std::alloc::{AllocError, Global};
@@ -101,22 +100,11 @@ pub(crate) struct Outcome {
     pub failed: Vec<u32>,
 }
 
-// The page of a block gets the checksum that it is to have as the next block.
-fn count_otherwise(bytes: &mut [u8], block: u32) {
-    let mut pages = bytes.chunks_exact_mut(PAGE_SIZE);
-    if let Some(page) = pages.nth(block as usize) {
-        let sum = plain_checksum(page, block.wrapping_add(1));
-        for (place, byte) in page.iter_mut().skip(CHECKSUM).zip(sum.to_le_bytes()) {
-            *place = byte;
-        }
-    }
-}
-
 // A shelf with the file of the case and another one.
 fn shelf_over(alloc: Global, case: &Case<'_>) -> Result<MemShelf, Fail> {
-    let mut bytes = numbered_pages(alloc, case.blocks, case.damaged)?;
-    if let Some(block) = case.wrong_checksum {
-        count_otherwise(&mut bytes, block);
+    let mut bytes = Vec::new(alloc);
+    for block in 0..case.blocks {
+        bytes.extend_from_slice(case.page_of(block).bytes())?;
     }
     let mut files = one_file(alloc, "file", bytes)?;
     let other = numbered_pages(alloc, 1, Some(0))?;

@@ -1,6 +1,6 @@
 //! Rows: a stream, and what is to come of it.
 
-use crate::helpers::answers::Answer;
+use crate::helpers::answers::{Answer, wanted_answer};
 use crate::helpers::cases::{CASE, Case};
 use crate::helpers::outcomes::run;
 use std::alloc::Global;
@@ -48,31 +48,12 @@ fn call_count(row: &Row<'_>) -> u32 {
     row.calls.unwrap_or(row.pages.saturating_add(ENDINGS))
 }
 
-// Whether the stream of the case finds the block damaged.
-pub(crate) fn is_damaged(case: &Case<'_>, block: u32) -> bool {
-    let wrong = case.settings.rules.checksums && case.wrong_checksum == Some(block);
-    wrong || case.damaged == Some(block)
-}
-
-// The first pages of the list, a damaged one as zeros, and then the ending.
+// What is given for the first blocks of the list, and then the ending.
 fn wanted(alloc: Global, row: &Row<'_>) -> Result<Vec<Answer>, Fail> {
     let list = row.case.list.list(alloc)?;
     let mut all = Vec::new(alloc);
-    for (block, info) in list.iter().take(row.pages as usize) {
-        let (block, info) = (*block, *info);
-        all.push(if is_damaged(&row.case, block) {
-            Answer::Zeroed {
-                block,
-                info,
-                zeros: true,
-            }
-        } else {
-            Answer::Page {
-                block,
-                info,
-                shown: block,
-            }
-        })?;
+    for entry in list.iter().take(row.pages as usize) {
+        all.push(wanted_answer(&row.case, *entry))?;
     }
     for _ in 0..ENDINGS {
         all.push(row.end)?;
@@ -87,7 +68,8 @@ pub(crate) fn check_rows<R: Abort + AllocGlobal + Wait>(
     rows: &[Row<'_>],
 ) -> Result<(), Fail> {
     for row in rows {
-        let name = row.name;
+        let (damaged, others) = (row.case.settings.rules.damaged, row.case.others.damaged);
+        let name = format!(in rt.alloc(); "{}, {damaged:?} behind {others:?}", row.name)?;
         let ran = run(rt, &row.case, call_count(row))?;
         let all = wanted(rt.alloc(), row)?;
         assert_eq!(rt; ran.all.as_slice(), all.as_slice(), "{name}");

@@ -23,7 +23,7 @@ pub returns-in-None-clause-listed : goal.returns-in-None-clause-listed
 returns-in-None-clause-listed g c =
     let none = sym c.map.ensures.map ∙ ap (λ o. option_map map_option_view o) c.in-None.is in (
       λ _. [],
-      warns_also _ _ _ _ (λ w lists. without_map c.args.asked none g.W.World.told (λ _. []) _ _ _ w
+      warns_also _ _ _ _ (λ w lists. without_map c.args.asked none g.W.World.told (λ _. []) _ _ _ _ w
           lists) c.list_jobs.ensures.lists,
       omega (
         arith,
@@ -53,8 +53,13 @@ map-ending-requires-clause-may g c κs within =
 pub returns-in_default-clause-listed : goal.returns-in_default-clause-listed
 returns-in_default-clause-listed g c = (
   λ _. [],
-  warns_none _ _ (lists_nothing (command_format c.args.asked.command.now) g.W.World.told
-      (resolved_request_parts c.args.asked g.W.World.told (λ _. [])) _),
+  warns_none _ _ (record {
+    lists = lists_nothing (command_format c.args.asked.command.now) g.W.World.told
+        (resolved_request_parts c.args.asked g.W.World.told (λ _. [])) _;
+    sums_are = λ none. absurd (
+        let given = (asks_for_map c.args.asked _ _ c.in-Some.is c.map.ensures.map
+        c.map.ensures.is).given in cc);
+  }),
   omega arith,
 )
 
@@ -78,7 +83,7 @@ returns-in-Done-clause-listed g c =
       given,
       warns_then _ _ _ _ _ _
           (λ v w first second. map_followed c.args.asked by.map by.given told given _
-          found.added by.skip_is known _ _ _ _ v w (sym c.outcome_of.ensures ∙ c.in-Done.is) zero
+          found.added by.skip_is known _ _ _ _ _ v w (sym c.outcome_of.ensures ∙ c.in-Done.is) zero
           first second)
           (record {
             warnings = c.map-ending.new.warnings.items;
@@ -111,7 +116,7 @@ returns g c =
         record {
           warnings = c.map-ending.new.warnings.items;
           tells = tells_same _ _ _ _ (search rules) c.write_warnings-line.ensures;
-          warnings_hold = map_stopped c.args.asked by.map by.given told given _ _ _
+          warnings_hold = map_stopped c.args.asked by.map by.given told given _ _ _ _
               c.in_default-outcome_of.not-Done
               (subst (λ (o : Outcome). IsOutput
               (format_with_map (options_of_settings (resolved_settings c.args.asked))
@@ -128,7 +133,6 @@ returns g c =
         cannot_write = λ is.
             absurd (not_write 1 c.map-ending.result (sym c.outcome_of.ensures ∙ is));
       };
-      sums = λ done none. absurd (let given = by.given in cc);
       unread = λ r b is.
           (let one =
           unread_out 1 c.map-ending.result c.outcome_of.result r b c.outcome_of.ensures is in

@@ -7,12 +7,12 @@ use Rattle.request_list.specs.RemainingRequests.{resolved_parts, resolved_settin
 use Rattle.request_list.specs.RequestList.{Part, Request, blocks_of_parts}
 use Rattle.run_report.specs.ErrorLine.{AppendsErrorText, error_stream}
 use Rattle.lister.specs.ListerState.{unskipped_parts}
-use Rattle.run_report.specs.Output.{IsOutput, WriteFaultsCounted, format_of_options}
-use Rattle.run_report.specs.Sums.{HasSums}
+use Rattle.heap_scan.specs.Sums.{no_sums}
+use Rattle.run_report.specs.Output.{WriteFaultsCounted, format_of_options}
+use Rattle.run_report.specs.Sums.{IsSummedOutput}
 use Rattle.lister.proofs.ListerJobsCompose.{all_listed, all_written}
-use Rattle.lister.proofs.JobSumsAdd.{summed_told, zero_sums}
+use Rattle.lister.proofs.JobSumsAdd.{zero_sums}
 use Rattle.request_list.proofs.RemainingRequestsStep.{resolved_blocks}
-use Rattle.lister.proofs.UnskippedBlocksAppend.{resolved_unskipped}
 use Rattle.aioscan_cmd.proofs.list_jobs.list_jobs.Goals as goal
 
 pub returns-clause-lists : goal.returns-clause-lists
@@ -26,16 +26,17 @@ returns-clause-lists g c =
     (ap (unskipped_parts skips) c.new-blocks.ensures.all)
     (zero_sums c.default.result c.default.ensures) c.run-lister.ensures.ran_source.source_follows
     c.run-lister.ensures.ran_source.over in
-    let options_are = ap (λ (r : PageRules). list_options r c.settings-settings.result.tuples)
+    let options_are = ap (λ (r : PageRules). list_options r c.settings-settings.result.page_text)
     c.page_rules.ensures
     ∙ ap options_of_settings c.settings-settings.ensures.settings in
     let Z : ListOptions → Type 0 = λ m.
-    IsOutput (format_of_options m) g.W.World.told kept (g.O.Sink.written c.args.out.now)
-    (g.O.Sink.written t.out.now) t.outcome listed.warnings in
+    IsSummedOutput (format_of_options m) g.W.World.told kept (g.O.Sink.written c.args.out.now)
+    (g.O.Sink.written t.out.now) t.outcome no_sums t.sums listed.warnings in
     let P : g.row.O.Denot → Type 0 = λ o.
-    IsOutput (format_of_options (options_of_settings (resolved_settings c.args.asked)))
+    IsSummedOutput (format_of_options (options_of_settings (resolved_settings c.args.asked)))
     g.W.World.told kept
-    (g.O.Sink.written c.args.out.now) (g.O.Sink.written o) t.outcome listed.warnings in
+    (g.O.Sink.written c.args.out.now) (g.O.Sink.written o) t.outcome no_sums t.sums
+    listed.warnings in
     let Q : g.row.E.Denot → Type 0 = λ e.
     AppendsErrorText listed.warnings before
     (error_stream t.line (g.E.Sink.written e) (g.E.Sink.faults e)) in
@@ -44,7 +45,7 @@ returns-clause-lists g c =
       warnings = listed.warnings;
       tells = subst Q (sym (c.err-1.given.1 (sym err_loan) ∙ c.end_borrow-2.ensures)) listed.tells;
       warnings_hold = subst P (sym (c.out-1.given.1 (sym loan) ∙ c.end_borrow.ensures))
-          (subst Z options_are listed.warnings_hold.lists);
+          (subst Z options_are listed.warnings_hold);
     }
 
 pub returns-clause-writes : goal.returns-clause-writes
@@ -59,25 +60,6 @@ returns-clause-writes g c =
     (unskipped_parts skips (resolved_parts c.args.asked))
     _ c.run-lister.result refl (ap (unskipped_parts skips) c.new-blocks.ensures.all)
     (zero_sums c.default.result c.default.ensures) c.run-lister.ensures.ran_source.source_follows)
-
-pub returns-clause-sums : goal.returns-clause-sums
-returns-clause-sums g c = λ done.
-    (let options_are = ap (λ (r : PageRules). list_options r c.settings-settings.result.tuples)
-    c.page_rules.ensures
-    ∙ ap options_of_settings c.settings-settings.ensures.settings in
-    let skips = filter_of_skipping c.args.by_map in
-    let kept = unskipped_parts skips (resolved_parts c.args.asked) in
-    let sums = c.run-lister.result.sums in
-    let listed = all_listed g.W.World.told g.O.Sink g.E.Sink kept _ c.run-lister.result refl
-    (ap (unskipped_parts skips) c.new-blocks.ensures.all)
-    (zero_sums c.default.result c.default.ensures)
-    c.run-lister.ensures.ran_source.source_follows c.run-lister.ensures.ran_source.over in
-    let Z : ListOptions → Type 0 = λ m. HasSums m g.W.World.told (blocks_of_parts kept) sums in
-    let B : List Request → Type 0 = λ l. HasSums
-    (options_of_settings (resolved_settings c.args.asked)) g.W.World.told l sums in
-    subst B (resolved_unskipped skips c.args.asked) (subst Z options_are
-    (summed_told (list_options c.page_rules.result c.settings-settings.result.tuples) g.W.World.told kept _ _ _ sums _
-    done listed.warnings_hold)))
 
 pub returns-clause-results_bound : goal.returns-clause-results_bound
 returns-clause-results_bound g c =

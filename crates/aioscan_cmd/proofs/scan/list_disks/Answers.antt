@@ -1,4 +1,4 @@
-use Rattle.std.proofs.Common.{◌∙◌, ap, arith, length, sum_by, []}
+use Rattle.std.proofs.Common.{◌∙◌, ap, arith, length, refl, sum_by, []}
 use Rattle.aioscan_cmd.proofs.ScanCountsAtEnd.{no_reads, some_fault, nothing_counted}
 use Rattle.aioscan_cmd.proofs.ScanCountsAtEnd.{none_by_workers}
 use Rattle.run_report.proofs.OutputsAppend.{lists_nothing}
@@ -58,10 +58,14 @@ returns-clause-listed g c =
     )
 
 pub returns-in-Err-clause-listed : goal.returns-in-Err-clause-listed
+unfolding lists_nothing
 returns-in-Err-clause-listed g c =
     rw c.without_reads.ensures (
       λ _. [],
-      warns_none _ _ (lists_nothing _ g.W.World.told _ _),
+      warns_none _ _ (record {
+        lists = lists_nothing _ g.W.World.told _ _;
+        sums_are = λ _. refl;
+      }),
       nothing_counted _ _ _ _ _
           (ap (λ disks. sum_by g.D.Disk.reads disks.items) c.in-Err.ensures.disks_returned
           ∙ no_reads g.D.Disk g.W.World.told g.W.World.relations c.args.asked.segment

@@ -1,5 +1,5 @@
-use Rattle.std.proofs.Common.{◌≡◌, rules, [], subst, false}
-use Rattle.run_report.specs.Outcomes.{is_refused}
+use Rattle.std.proofs.Common.{◌≡◌, rules, [], subst, true}
+use Rattle.run_report.specs.Outcomes.{can_end_listing}
 use Rattle.run_report.specs.declared.report.Outcome.{Outcome}
 use Rattle.aioscan_cmd.proofs.ScanCountsAtEnd.{no_reads, no_faults, nothing_counted}
 use Rattle.aioscan_cmd.proofs.ScanCountsAtEnd.{scan_refused, scanned_nothing}
@@ -16,7 +16,8 @@ returns-in-Ok-clause-scanned g c =
         others = (e.length_faults, e.faults, e.reads);
         lists = λ _. lists;
         cannot_open = λ is. absurd (
-            let begun = subst (λ (o : Outcome). is_refused o ≡ false) is lists.not_refused in cc);
+            let begun = subst (λ (o : Outcome). can_end_listing o ≡ true) is lists.lists.ends_listing
+            in cc);
         unread = c.list_disks.ensures.unread;
       }) listed,
       counted,

@@ -48,7 +48,7 @@ returns g c =
       room = 2 ^ 58 - 1 - c.args.start;
       unread = 0;
       rules = c.page_rules.result;
-      tuples = c.args.settings.now.tuples;
+      page_text = c.args.settings.now.page_text;
       opened = c.of-opened.result;
       actors = c.args.memory.lists.actors;
       disks = c.args.memory.lists.disks;
@@ -75,7 +75,7 @@ returns g c =
       workers_are = c.workers-workers.ensures.count ∙ c.worker_count.ensures;
       room = refl;
       unread = refl;
-      options_are = ap (λ (r : PageRules). list_options r c.args.settings.now.tuples)
+      options_are = ap (λ (r : PageRules). list_options r c.args.settings.now.page_text)
           c.page_rules.ensures;
       actors_fit = memory.lists.actors_fit;
       disks_fit = memory.lists.disks_fit;

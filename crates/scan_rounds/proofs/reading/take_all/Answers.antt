@@ -64,7 +64,7 @@ loop-ending-preserved g c =
           (answer_of t c.next-answer.result) f.view);
       most = c.take.ensures.most ∙ i.most;
       kept = c.take.ensures.kept ∙ i.kept;
-      so_far = taken_more _ _ _ _ _ _ _ _ _ _ i.so_far here.next here.zeroed c.take.ensures.takes
+      so_far = taken_more _ _ _ _ _ _ _ _ _ _ i.so_far here.next here.marked c.take.ensures.takes
           c.in_default.is (given_by_call s t _ _ c.args.relation c.next-answer.result i.stream
           c.requires.relation f.view);
     }

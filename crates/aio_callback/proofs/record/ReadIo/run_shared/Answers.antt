@@ -11,11 +11,11 @@ invariant_of-self c =
     let chain = c.run_chain-self-inside in
     let marks = c.fill.new.self in
     let room_or_none = length_refill pages.len pages.items chain.new.pages pages.ok.0 in
-    let marked = length_refill marks.len marks.items chain.new.zeroed marks.ok.0 in
+    let marked = length_refill marks.len marks.items chain.new.marks marks.ok.0 in
     let same = c.fill.ensures.len in
     let size = c.fill_room.ensures.size in
     let room = pages.ok.0 in
-    let marks_room = r.zeroed.ok.0 in
+    let marks_room = r.marks.ok.0 in
     record {
       few = before.few;
       most = before.most;

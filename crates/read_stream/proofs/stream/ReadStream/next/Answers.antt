@@ -1,13 +1,12 @@
-use Rattle.std.proofs.Common.{◌≡◌, ℕ, true, rules, refl, sym, ap, subst, ◌∙◌}
+use Rattle.std.proofs.Common.{◌≡◌, ℕ, rules, refl, sym, ap, subst, ◌∙◌}
 use Rattle.std.specs.Prelude.{IfSome}
-use Rattle.page_check.specs.declared.rules.PageRules.{PageRules}
 use Rattle.page_check.specs.PageBytes.{IsPage}
 use Rattle.page_check.specs.IsAnswer.{IfPage, Next as Said}
 use Rattle.aio_handle.specs.ContractViews.{ActorView}
 use Rattle.read_stream.specs.declared.stream.ReadStream.{ReadStream}
 use Rattle.read_stream.specs.declared.at_hand.AtHand.{AtHand}
 use Rattle.read_stream.specs.AtHand.{ending_at_hand}
-use Rattle.stream_answer.specs.StreamAnswers.{IfZeroed, synchronous_answer}
+use Rattle.stream_answer.specs.StreamAnswers.{synchronous_answer}
 use Rattle.read_stream.specs.StreamState.{StreamAnswered, answer_at_hand, stream_view}
 use Rattle.read_stream.specs.StreamViews.{StreamView, IsStreamAnswer, stream_after}
 use Rattle.read_stream.proofs.CallersView.{answer_seen, as_left, ending_again}
@@ -31,18 +30,11 @@ returns g c =
     let answered : y ≡ x =
     ap (λ (z : ℕ). synchronous_answer z c.answer.result)
     (sym (ap (λ (z : StreamView P). z.relation) after)) ∙ c.answer.ensures.answer in
-    let zero : n.scope.rules ≡ s.desk.now.settings.rules =
-    c.advance.ensures.is_open.between.invariant.set_up.rules
-    ∙ ap (λ (z : StreamView P). z.settings.rules) after in
-    let zeroed : IfZeroed x (s.desk.now.settings.rules.zero ≡ true) =
-    subst (λ (z : PageRules). IfZeroed x (z.zero ≡ true)) zero
-    (subst (λ (z : Said P). IfZeroed z (n.scope.rules.zero ≡ true)) c.answer.ensures.answer
-    c.answer.ensures.zeroed) in
     let seen : IsStreamAnswer g.W.World.told (view s) actor x =
     answer_seen g.S.BlockSource.left g.W.World s m
     noted.0 actor x noted.2 c.note_actor.ensures.is_open
     (c.advance.ensures.answer (subst (λ (z : Said P). IfPage z IsPage) c.answer.ensures.answer
-    c.answer.ensures.page)) zeroed in
+    c.answer.ensures.page)) in
     let found : (now : ActorView) → now ≡ actor → IsStreamAnswer g.W.World.told (view s) now y =
     λ now last. subst (λ (z : ActorView). IsStreamAnswer g.W.World.told (view s) z y) (sym last)
     (subst (λ (z : Said P). IsStreamAnswer g.W.World.told (view s) actor z) (sym answered) seen) in

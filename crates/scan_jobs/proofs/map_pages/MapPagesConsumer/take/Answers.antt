@@ -12,6 +12,13 @@ returns-in-Page-clause-takes c =
     (ap (λ (m : Map). m.added) c.add.ensures)
     (sym (append-nil c.args.self.now.warnings.now.items)))
 
+pub returns-in-Damaged-clause-takes : goal.returns-in-Damaged-clause-takes
+returns-in-Damaged-clause-takes c =
+    rw c.in-Damaged.is (page_taken c.args.self.now.map.now c.add-in-Damaged.new.self
+    c.args.self.now.warnings.now.items c.args.self.now.warnings.now.items _
+    (ap (λ (m : Map). m.added) c.add-in-Damaged.ensures)
+    (sym (append-nil c.args.self.now.warnings.now.items)))
+
 pub returns-in-Ok-clause-takes : goal.returns-in-Ok-clause-takes
 returns-in-Ok-clause-takes c =
     rw c.in-Zeroed.is (page_taken c.args.self.now.map.now c.add-in-Ok.new.self

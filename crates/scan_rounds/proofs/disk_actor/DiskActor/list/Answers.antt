@@ -1,5 +1,5 @@
 use Rattle.std.proofs.Common.{sym, ap, ◌∙◌, refl}
-use Rattle.heap_tuple.specs.Listing.{text_with}
+use Rattle.scan_settings.specs.PageFormats.{page_format}
 use Rattle.scan_rounds.proofs.actor_jobs.ActorsListJobs.{by_text}
 use Rattle.scan_jobs.proofs.JobsListed.{new_jobs_have_none}
 use Rattle.scan_rounds.proofs.disk_actor.DiskActor.list.Goals as goal
@@ -7,7 +7,7 @@ use Rattle.scan_rounds.proofs.disk_actor.DiskActor.list.Goals as goal
 pub read-ending-requires-clause-held : goal.read-ending-requires-clause-held
 read-ending-requires-clause-held g c κs within = (
   refl,
-  new_jobs_have_none (text_with c.args.tuples) _ c.args.jobs.now c.requires.may.fresh,
+  new_jobs_have_none (page_format c.args.page_text) _ c.args.jobs.now c.requires.may.fresh,
 )
 
 pub returns-clause-listed : goal.returns-clause-listed

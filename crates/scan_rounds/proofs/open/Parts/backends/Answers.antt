@@ -6,8 +6,8 @@ use Rattle.scan_rounds.proofs.open.Parts.backends.Goals as goal
 
 pub loop-init : goal.loop-init
 loop-init g c = record {
-  made = subst (λ bs. GivesBackends c.args.tuples c.args.self.now c.args.self.now bs)
-      (sym c.requires.empty.0) (no_backends c.args.tuples c.args.self.now);
+  made = subst (λ bs. GivesBackends c.args.page_text c.args.self.now c.args.self.now bs)
+      (sym c.requires.empty.0) (no_backends c.args.page_text c.args.self.now);
   so_far = search rules;
   capacity = search rules;
 }

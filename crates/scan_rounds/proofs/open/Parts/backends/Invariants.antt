@@ -4,7 +4,7 @@ use Rattle.scan_rounds.proofs.open.Parts.backends.Given as goal
 
 abbrev pub invariant-loop : goal.invariant-loop
 invariant-loop g l = record {
-  made : GivesBackends l.tuples l.fn.self l.self l.backends.items;
+  made : GivesBackends l.page_text l.fn.self l.self l.backends.items;
   so_far : length l.backends.items ≡ l.counter;
   capacity : l.count ≤ vec_capacity l.backends;
 }
