@@ -45,7 +45,7 @@ sums_joined front back = record {
 abbrev pub no_sums : PageSums
 no_sums = record { pages = 0; zero = 0; items = 0; faults = 0 }
 
--- each sum fits its type, and so it is with one page more
+-- each sum fits its type
 abbrev pub FitSums : PageSums → Type 0
-FitSums sums = (sums.pages < 2 ^ 63) × (sums.zero < 2 ^ 63) × (sums.items < 2 ^ 63)
-    × (sums.faults < 2 ^ 63)
+FitSums sums = (sums.pages < 2 ^ 64) × (sums.zero < 2 ^ 64) × (sums.items < 2 ^ 64)
+    × (sums.faults < 2 ^ 64)

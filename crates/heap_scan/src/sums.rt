@@ -21,7 +21,7 @@ pub struct PageSums {
 /// Adds a page, of which so many faults were told, to the sums. Any page will do. It takes no
 /// memory.
 pub fn tally(page: &Page, faults: u32, sums: &mut PageSums)
-    requires { FitSums sums.old }
+    requires fit { FitSums (sums_with_page faults sums.old page.now) }
     ensures { sums.new ≡ sums_with_page faults sums.old page.now }
 {
     sums.pages += 1;

@@ -20,7 +20,8 @@ use Rattle.page_faults.specs.declared.places.Place.TheVariants.{Own, Taken, Outs
 use Rattle.page_faults.specs.declared.fault.Fault as fault
 use Rattle.page_faults.specs.declared.fault.Fault.{Fault}
 use Rattle.page_faults.specs.Faults.{faults_by, faults_of, heap_faults}
-use Rattle.page_faults.specs.HeaderFaults.{checksum_faults, fault_if, is_behind, is_wrong_lower}
+use Rattle.page_faults.specs.HeaderFaults.{checksum_faults, fault_if, is_behind, is_verified}
+use Rattle.page_faults.specs.HeaderFaults.{is_wrong_lower}
 use Rattle.page_faults.specs.HeaderFaults.{lower_faults, lsn_faults, lsn_of, version_faults}
 use Rattle.page_faults.specs.ItemFaults.{header_of_item, is_wrong_redirect, is_wrong_unused}
 use Rattle.page_faults.specs.ItemFaults.{item_fault, item_faults, items_faults, kind_faults}
@@ -100,13 +101,13 @@ unfolding items_faults
 items_count options page index =
     omega (arith, each_item options page (range_with_len 0 index), length-range_with_len 0 index)
 
-misplaced_count : (block : ℕ) (page items : List ℕ)
-    → length (misplaced_by page block items) ≤ 1
-misplaced_count block page [] = omega arith
-misplaced_count block page (first ∷ others) =
+misplaced_count : (verified : Bool) (block : ℕ) (page items : List ℕ)
+    → length (misplaced_by verified block page items) ≤ 1
+misplaced_count verified block page [] = omega arith
+misplaced_count verified block page (first ∷ others) =
     let named = (header_of_item page first).block in
-    one_at_most (not (named == block) && list_all (is_of_block page named) (first ∷ others))
-    (fault.TheVariants.Misplaced named)
+    one_at_most (not (named == block) && list_all (is_of_block page named) (first ∷ others)
+    && not verified) (fault.TheVariants.Misplaced named)
 
 lower_count : (page : List ℕ) → length (lower_faults page) ≤ 1
 unfolding lower_faults
@@ -114,10 +115,12 @@ lower_count page =
     let lower = (header_of page).lower in
     one_at_most (is_wrong_lower lower) (fault.TheVariants.Lower lower)
 
-misplaced_count_of : (block : ℕ) (page : List ℕ) → length (misplaced_faults block page) ≤ 1
+misplaced_count_of : (options : CheckOptions) (block : ℕ) (page : List ℕ)
+    → length (misplaced_faults options block page) ≤ 1
 unfolding misplaced_faults
-misplaced_count_of block page =
-    misplaced_count block page (witnesses_of page (placed_items page (line_pointer_count page)))
+misplaced_count_of options block page =
+    misplaced_count (is_verified options block page) block page
+    (witnesses_of page (placed_items page (line_pointer_count page)))
 
 heap_if : (heap : Bool) (faults : List Fault) (most : ℕ) → length faults ≤ most
     → length (if heap then faults else []) ≤ most
@@ -129,7 +132,7 @@ heap_count : (options : CheckOptions) (block : ℕ) (page : List ℕ)
 unfolding heap_faults
 heap_count options block page =
     let items = items_faults options page (line_pointer_count page) in
-    let misplaced = misplaced_faults block page in
+    let misplaced = misplaced_faults options block page in
     heap_if ((header_of page).special == 8192) (lower_faults page ++ items ++ misplaced)
     (4 * line_pointer_count page + 2)
     (omega (
@@ -138,7 +141,7 @@ heap_count options block page =
       length-append (lower_faults page) items,
       lower_count page,
       items_count options page (line_pointer_count page),
-      misplaced_count_of block page,
+      misplaced_count_of options block page,
     ))
 
 checksum_count : (options : CheckOptions) (block : ℕ) (page : List ℕ)

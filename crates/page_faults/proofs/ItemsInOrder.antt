@@ -20,7 +20,7 @@ use Rattle.page_faults.specs.declared.options.CheckOptions.{CheckOptions}
 use Rattle.page_faults.specs.declared.fault.Fault as fault
 use Rattle.page_faults.specs.declared.fault.Fault.{Fault}
 use Rattle.page_faults.specs.declared.places.Place.TheVariants.{Own}
-use Rattle.page_faults.specs.HeaderFaults.{fault_if}
+use Rattle.page_faults.specs.HeaderFaults.{fault_if, is_verified}
 use Rattle.page_faults.specs.Places.{owner_of, first_owner, place_by, number_of, place_of, is_own}
 use Rattle.page_faults.specs.Places.{placed_items, is_outside, first_piece, end_piece}
 use Rattle.page_faults.specs.TupleFaults.{tuple_faults, is_wrong_hoff, is_committed_multi, is_frozen}
@@ -219,21 +219,23 @@ good-none options block page = record {
   here = refl;
 }
 
-here_named : (block : ℕ) (page list : List ℕ)
-    → list_all (names_block block page) list ≡ true → misplaced_by page block list ≡ []
-here_named block page [] are = refl
-here_named block page (x ∷ xs) are =
+here_named : (verified : Bool) (block : ℕ) (page list : List ℕ)
+    → list_all (names_block block page) list ≡ true → misplaced_by verified block page list ≡ []
+here_named verified block page [] are = refl
+here_named verified block page (x ∷ xs) are =
     let named = (header_of_item page x).block in
     let same = and_left (named == block) (list_all (names_block block page) xs) are in
-    ap (λ (b : Bool). fault_if (not b && list_all (is_of_block page named) (x ∷ xs))
-    (fault.TheVariants.Misplaced named)) same
+    ap (λ (b : Bool). fault_if (not b && list_all (is_of_block page named) (x ∷ xs)
+    && not verified) (fault.TheVariants.Misplaced named)) same
   where
     and_left : (a b : Bool) → (a && b) ≡ true → a ≡ true
     and_left true b is = refl
     and_left false b is = is
 
 pub misplaced-good : (options : CheckOptions) (block : ℕ) (page : List ℕ) (begin : ℕ)
-    → AreGood options block page (line_pointer_count page) begin → misplaced_faults block page ≡ []
+    → AreGood options block page (line_pointer_count page) begin
+    → misplaced_faults options block page ≡ []
 unfolding misplaced_faults
 misplaced-good options block page begin are =
-    here_named block page (witnesses_of page (placed_items page (line_pointer_count page))) are.here
+    here_named (is_verified options block page) block page
+    (witnesses_of page (placed_items page (line_pointer_count page))) are.here

@@ -17,7 +17,7 @@ unfoldable pub heap_faults : CheckOptions → ℕ → List ℕ → List Fault
 heap_faults options block page =
     if (header_of page).special == 8192
     then lower_faults page ++ items_faults options page (line_pointer_count page)
-    ++ misplaced_faults block page
+    ++ misplaced_faults options block page
     else []
 
 -- by the verdict: a page of zeros is new; where the header is not sane, nothing is known of what

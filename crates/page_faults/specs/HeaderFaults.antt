@@ -24,6 +24,10 @@ checksum_faults options block page =
     fault_if (options.checksums && not (has_checksum block page))
     (fault.TheVariants.Checksum (header_of page).checksum (checksum_of page block))
 
+-- its checksum shows that it was written as this block
+abbrev pub is_verified : CheckOptions → ℕ → List ℕ → Bool
+is_verified options block page = options.checksums && has_checksum block page
+
 -- the first field of a header, `pd_lsn` (`PageXLogRecPtr` of `bufpage.h`)
 unfoldable pub lsn_of : List ℕ → Lsn
 lsn_of page = record { high = u32_at page 0; low = u32_at page 4 }

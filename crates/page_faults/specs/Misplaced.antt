@@ -7,7 +7,8 @@ use Rattle.heap_tuple.specs.declared.header.TupleHeader.{TupleHeader}
 use Rattle.page_faults.specs.declared.fault.Fault as fault
 use Rattle.page_faults.specs.declared.fault.Fault.{Fault}
 use Rattle.page_faults.specs.declared.witnesses.Witnesses.{Witnesses}
-use Rattle.page_faults.specs.HeaderFaults.{fault_if}
+use Rattle.page_faults.specs.declared.options.CheckOptions.{CheckOptions}
+use Rattle.page_faults.specs.HeaderFaults.{fault_if, is_verified}
 use Rattle.page_faults.specs.Places.{placed_items}
 use Rattle.page_faults.specs.TupleFaults.{is_frozen}
 use Rattle.page_faults.specs.ItemFaults.{header_of_item}
@@ -29,17 +30,19 @@ is_at header block index = header.block == block && header.position == index + 1
 unfoldable pub is_of_block : List ℕ → ℕ → ℕ → Bool
 is_of_block page block index = is_at (header_of_item page index) block index
 
--- there are some, and all are of one and the same other block
-abbrev pub misplaced_by : List ℕ → ℕ → List ℕ → List Fault
-misplaced_by page block [] = []
-misplaced_by page block (first ∷ others) =
+-- there are some, all are of one and the same other block, and no checksum shows the page to be of
+-- this one
+abbrev pub misplaced_by : Bool → ℕ → List ℕ → List ℕ → List Fault
+misplaced_by verified block page [] = []
+misplaced_by verified block page (first ∷ others) =
     let named = (header_of_item page first).block in
-    fault_if (not (named == block) && list_all (is_of_block page named) (first ∷ others))
-    (fault.TheVariants.Misplaced named)
+    fault_if (not (named == block) && list_all (is_of_block page named) (first ∷ others)
+    && not verified) (fault.TheVariants.Misplaced named)
 
-unfoldable pub misplaced_faults : ℕ → List ℕ → List Fault
-misplaced_faults block page =
-    misplaced_by page block (witnesses_of page (placed_items page (line_pointer_count page)))
+unfoldable pub misplaced_faults : CheckOptions → ℕ → List ℕ → List Fault
+misplaced_faults options block page =
+    misplaced_by (is_verified options block page) block page
+    (witnesses_of page (placed_items page (line_pointer_count page)))
 
 -- the block that the first of these items names
 abbrev pub first_named : List ℕ → List ℕ → Option ℕ

@@ -113,7 +113,7 @@ pub(crate) fn are_good_in_order(options: &CheckOptions, block: u32, page: &Page)
     requires heap { (header_of page.now).special ≡ 8192 }
     ensures faults { result ≡ true
         → items_faults options.now page.now (line_pointer_count page.now) ≡ [] }
-    ensures misplaced { result ≡ true → misplaced_faults block page.now ≡ [] }
+    ensures misplaced { result ≡ true → misplaced_faults options.now block page.now ≡ [] }
 {
     let mut begin = PAGE_SIZE;
     for index in 0..count(page) {

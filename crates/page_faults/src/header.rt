@@ -3,7 +3,7 @@ ghost use Rattle.std.specs.Prelude.{◌≡◌, ◌++◌, ◌∷◌, [], length, 
 ghost use Rattle.page_check.specs.Fields.{header_of};
 ghost use Rattle.page_faults.specs.HeaderFaults.{lsn_of, lsn_number, is_behind, header_fault};
 ghost use Rattle.page_faults.specs.HeaderFaults.{checksum_faults, lsn_faults, version_faults};
-ghost use Rattle.page_faults.specs.HeaderFaults.{lower_faults, is_wrong_lower};
+ghost use Rattle.page_faults.specs.HeaderFaults.{lower_faults, is_wrong_lower, is_verified};
 
 use crate::report::report;
 use crate::{CheckOptions, Fault, Lsn};
@@ -86,6 +86,13 @@ pub(crate) fn check_checksum(
         stored != computed,
         Fault::Checksum { stored, computed },
     )
+}
+
+/// Its checksum shows that the page was written as this block.
+pub(crate) fn is_verified(options: &CheckOptions, block: u32, page: &Page) -> bool
+    ensures { result ≡ is_verified options.now block page.now }
+{
+    options.checksums && header(page).checksum == page_checksum(page, block)
 }
 
 /// Reports a page that was changed behind the end of the write-ahead log.

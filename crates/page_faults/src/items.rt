@@ -134,7 +134,7 @@ pub(crate) fn check_items(
     requires heap { (header_of page.now).special ≡ 8192 }
     ensures ok { OnOk result (found.new.items ≡ found.old.items
         ++ (items_faults options.now page.now (line_pointer_count page.now)
-        ++ misplaced_faults block page.now)) }
+        ++ misplaced_faults options.now block page.now)) }
     ensures prefix { take (length found.old.items) found.new.items ≡ found.old.items }
 {
     if are_good_in_order(options, block, page) {
@@ -155,7 +155,7 @@ fn check_each(
     requires heap { (header_of page.now).special ≡ 8192 }
     ensures ok { OnOk result (found.new.items ≡ found.old.items
         ++ (items_faults options.now page.now (line_pointer_count page.now)
-        ++ misplaced_faults block page.now)) }
+        ++ misplaced_faults options.now block page.now)) }
     ensures prefix { take (length found.old.items) found.new.items ≡ found.old.items }
 {
     let mut owners = [0; PIECES];
@@ -163,5 +163,5 @@ fn check_each(
     for index in 0..count(page) {
         check_item(options, page, index, &mut owners, &mut witnesses, found)?;
     }
-    check_witnesses(&witnesses, block, page, found)
+    check_witnesses(options, &witnesses, block, page, found)
 }

@@ -6,9 +6,10 @@ ghost use Rattle.page_faults.specs.ItemFaults.{header_of_item};
 ghost use Rattle.page_faults.specs.Misplaced.{names_itself, is_at, AreWitnesses};
 ghost use Rattle.page_faults.specs.Misplaced.{misplaced_faults};
 
-use crate::Fault;
+use crate::header::is_verified;
 use crate::report::report;
 use crate::tuples::is_frozen;
+use crate::{CheckOptions, Fault};
 use heap_tuple::TupleHeader;
 use page_check::Page;
 use std::alloc::AllocError;
@@ -69,10 +70,12 @@ pub(crate) fn add_tuple(witnesses: &mut Witnesses, index: u16, header: &TupleHea
     witnesses.named = Some(named);
 }
 
-/// Reports a page whose tuples name another block.
+/// Reports a page whose tuples name another block. Where checksums are looked at and its own is
+/// right, it was written as this one: a checksum covers the number of the block.
 #[inline]
 #[tactic(auto, unfolding(crate::specs::Misplaced::misplaced_faults))]
 pub(crate) fn check_witnesses(
+    options: &CheckOptions,
     witnesses: &Witnesses,
     block: u32,
     page: &Page,
@@ -81,12 +84,12 @@ pub(crate) fn check_witnesses(
     requires { AreWitnesses page.now (placed_items page.now (line_pointer_count page.now))
         witnesses.now }
     ensures ok { OnOk result
-        (found.new.items ≡ found.old.items ++ misplaced_faults block page.now) }
+        (found.new.items ≡ found.old.items ++ misplaced_faults options.now block page.now) }
     ensures prefix { take (length found.old.items) found.new.items ≡ found.old.items }
 {
     match witnesses.named {
         Some(named) => {
-            let wrong = named != block && witnesses.agree;
+            let wrong = named != block && witnesses.agree && !is_verified(options, block, page);
             report(found, wrong, Fault::Misplaced { block: named })
         }
         None => Ok(()),

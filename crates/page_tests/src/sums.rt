@@ -1,6 +1,6 @@
 //! Sums over pages.
 use heap_scan::{PageSums, tally};
-use page_check::Page;
+use page_check::{Page, count};
 use page_fixtures::pages::{BOUNDS, ZEROS, bounds, page_of};
 use std::test::Fail;
 
@@ -10,7 +10,7 @@ type Bounds = (u16, u16, u16);
 // The sums with one page more, of which so many faults were told, where they are small.
 fn with_page(mut sums: PageSums, page: &Page, faults: u32) -> PageSums {
     let greatest = sums.pages.max(sums.zero).max(sums.items).max(sums.faults);
-    if greatest < 1_000_000 {
+    if greatest < 1_000_000 && count(page) < 3_000 {
         tally(page, faults, &mut sums);
     }
     sums

@@ -4,12 +4,11 @@ use Rattle.std.proofs.Common.{sym, subst, ◌∙◌, arith, drop, length-append,
 use Rattle.std.specs.Prelude.{Option, Some, None}
 use Rattle.std.proofs.lemmas.List.{drop-append-le, drop_all, take-append-le, take_all}
 use Rattle.page_check.specs.PageBytes.{IsPage}
-use Rattle.page_check.specs.IsAnswer.{Next as Said, Page, Stop, IfGiven, IfPage}
+use Rattle.page_check.specs.IsAnswer.{Next as Said, Page, Stop, IfPage}
 use Rattle.heap_scan.specs.Listing.{PageFormat}
-use Rattle.heap_scan.specs.Sums.{FitSums}
 use Rattle.scan_settings.specs.PageFormats.{page_format}
 use Rattle.scan_settings.specs.declared.page_text.PageText.{PageText}
-use Rattle.scan_jobs.specs.JobOutput.{AnswerAppended}
+use Rattle.scan_jobs.specs.JobOutput.{AnswerAppended, CanBeCounted}
 use Rattle.scan_jobs.specs.ConsumedPages.{AnswerConsumed, HaveTaken, JobHasOutput}
 use Rattle.scan_jobs.specs.ConsumedPages.{JobsHaveOutput}
 use Rattle.scan_jobs.specs.declared.job.Ending.{Ending}
@@ -50,7 +49,7 @@ first_more format j k (i ∷ js) taken (inr less) same pages after have few has 
 -- in its turn the first job can count the page
 pub first_fits : (text : PageText) (j : Job) (js : List Job) (taken : ℕ) (said : Said (Unit {0}))
     → IsFirstTurn j js taken → HasRoom (HaveTaken (page_format text) taken (j ∷ js)) said
-    → IfGiven said (λ _. FitSums j.tally)
+    → CanBeCounted (page_format text) j.tally said
 first_fits text j js taken (Stop end) turn room = tt
 first_fits text j js taken (Page g) turn (pages, have, few) =
     next_fits text j (Page g)

@@ -1,6 +1,6 @@
 -- What a job has of the pages that it has taken.
 use Rattle.std.proofs.Common.{◌≡◌, ◌≢◌, ℕ, ◌<◌, List, [], ◌∷◌, ◌++◌, length, get_or, refl, sym, ap}
-use Rattle.std.proofs.Common.{◌∙◌, subst, arith, append-nil}
+use Rattle.std.proofs.Common.{◌∙◌, subst, arith, append-nil, length-append, All}
 use Rattle.std.specs.Prelude.{Option, Some, None, Result, Ok, Err, OnOk, OnErr}
 use Rattle.std.proofs.lemmas.List.Elements.{All-nil, All-push}
 use Rattle.page_check.specs.PageBytes.{IsPage}
@@ -16,7 +16,7 @@ use Rattle.scan_settings.specs.PageFormats.{page_format}
 use Rattle.scan_settings.specs.declared.page_text.PageText.{PageText}
 use Rattle.scan_settings.proofs.FaultCounts.{few_told}
 use Rattle.heap_scan.specs.declared.sums.PageSums.{PageSums}
-use Rattle.scan_jobs.specs.JobOutput.{JobOutput, AnswerAppended, job_output}
+use Rattle.scan_jobs.specs.JobOutput.{JobOutput, AnswerAppended, CanBeCounted, job_output}
 use Rattle.scan_jobs.specs.ConsumedPages.{JobHasOutput, AnswerConsumed, PagesPredicate}
 use Rattle.scan_jobs.specs.declared.job.Ending.{Ending}
 use Rattle.scan_jobs.specs.declared.job.Ending.TheVariants as ending
@@ -97,14 +97,22 @@ HasRoom holds said = IfGiven said (λ _. (pages : List G) × holds pages × (len
 
 -- up to 4096 pages, their line pointers and their faults can be counted
 pub next_fits : (text : PageText) (j : Job) (said : Said (Unit {0}))
-    → HasRoom (JobHasOutput (page_format text) j) said → IfGiven said (λ _. FitSums j.tally)
+    → HasRoom (JobHasOutput (page_format text) j) said
+    → CanBeCounted (page_format text) j.tally said
 next_fits text j (Stop end) room = tt
 next_fits text j (Page g) (pages, has, few) =
-    subst (λ (s : PageSums). FitSums s) (sym has.sums_are)
-    (sums_fit (page_format text) pages
-    (λ k d below. few_items_of_page (get_or pages k d).page (has.are_pages k d below))
-    (λ k d below. (let x = get_or pages k d in
-    few_told text x.mark x.entry.relation x.entry.block x.page)) (omega arith))
+    λ is.
+    let format = page_format text in
+    let all : All (λ x. IsPage x.page) (pages ++ g ∷ []) =
+    All-push (λ x. IsPage x.page) pages g has.are_pages is in
+    subst (λ (s : PageSums). FitSums s)
+    (sums_of-push format pages g
+    ∙ ap (λ (s : PageSums). sums_with_page (fault_count_for format g) s g.page) (sym has.sums_are))
+    (sums_fit format (pages ++ g ∷ [])
+    (λ k d below. few_items_of_page (get_or (pages ++ g ∷ []) k d).page (all k d below))
+    (λ k d below. (let x = get_or (pages ++ g ∷ []) k d in
+    few_told text x.mark x.entry.relation x.entry.block x.page))
+    (omega (arith, few, length-append pages (g ∷ []))))
 
 -- a page that was read was appended and counted, or there was no memory
 pub page_shown : {T F : Type 0} (format : PageFormat) (r : Result T F) (g : G)

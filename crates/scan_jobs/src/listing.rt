@@ -9,7 +9,7 @@ ghost use Rattle.heap_scan.specs.Warnings.{warning_line};
 ghost use Rattle.stream_answer.specs.StreamAnswers.{synchronous_answer};
 ghost use Rattle.scan_settings.specs.PageFormats.{page_format};
 ghost use Rattle.scan_jobs.specs.ConsumedPages.{AnswerConsumed, HaveTaken, JobsHaveOutput};
-ghost use Rattle.scan_jobs.specs.JobOutput.{AnswerAppended, job_output};
+ghost use Rattle.scan_jobs.specs.JobOutput.{AnswerAppended, CanBeCounted, job_output};
 ghost use Rattle.scan_jobs.specs.Jobs.{ended_job, ended_jobs, job_outline};
 ghost use Rattle.page_check.specs.IsAnswer.{IfGiven, IfPage};
 
@@ -71,7 +71,8 @@ fn show_page(
     sums: &mut PageSums,
 ) -> Result<(), AllocError>
     requires valid { IsValidUnlessDamaged mark page.now }
-    requires fit { FitSums sums.old }
+    requires fit { FitSums (sums_with_page ((page_format page_text).fault_count_of mark relation block
+        page.now) sums.old page.now) }
     ensures ok { OnOk result ((text.new.items ≡ text.old.items
         ++ (page_format page_text).text_of mark relation block page.now)
         × (sums.new ≡ sums_with_page ((page_format page_text).fault_count_of mark relation block
@@ -94,7 +95,8 @@ fn show_zeroed(
     sums: &mut PageSums,
 ) -> Result<(), AllocError>
     requires valid { IsValid page.now }
-    requires fit { FitSums sums.old }
+    requires fit { FitSums (sums_with_page ((page_format page_text).fault_count_of PageMark.Zeroed
+        relation block page.now) sums.old page.now) }
     ensures ok { OnOk result ((text.new.items ≡ text.old.items
         ++ (page_format page_text).text_of PageMark.Zeroed relation block page.now)
         × (warnings.new.items ≡ warnings.old.items ++ warning_line relation block)
@@ -145,7 +147,7 @@ fn show(
 ) -> Option<Ending>
     requires valid { IfGiven (synchronous_answer relation answer)
         (λ g. IsValidUnlessDamaged g.mark g.page) }
-    requires fit { IfGiven (synchronous_answer relation answer) (λ _. FitSums sums.old) }
+    requires fit { CanBeCounted (page_format page_text) sums.old (synchronous_answer relation answer) }
     ensures shown { AnswerAppended (page_format page_text) (synchronous_answer relation answer.entry)
         (job_output text.old.items warnings.old.items sums.old)
         (job_output text.new.items warnings.new.items sums.new) result }
