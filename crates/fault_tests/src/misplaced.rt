@@ -1,7 +1,8 @@
 //! Pages in the place of others.
-use crate::made::{PLAIN, lines_of, page_with, put_tuple, tuple_of};
+use crate::made::{PLAIN, SUMMED, lines_of, page_with, put_tuple, tuple_of};
 use heap_tuple::TupleHeader;
-use page_check::Kind;
+use page_check::{Kind, page_checksum};
+use page_fixtures::pages::put_bytes;
 use std::test::Fail;
 
 fn at(block: u32, position: u16) -> TupleHeader {
@@ -64,6 +65,29 @@ fn pages_in_the_place_of_others(rt: HostRuntime) -> Result<(), Fail> {
         put_tuple(&mut page, 8152, &first);
         put_tuple(&mut page, 8112, &second);
         let lines = lines_of(&rt, &PLAIN, 5, &page)?;
+        assert_eq!(rt; lines.as_str(), wanted, "{name}");
+    }
+    Ok(())
+}
+
+// A checksum covers the number of the block.
+#[test]
+fn a_page_of_its_block_by_its_checksum(rt: HostRuntime) -> Result<(), Fail> {
+    let mut page = page_with(8152, &[(8152, Kind::Normal, 40)]);
+    put_tuple(&mut page, 8152, &at(70000, 1));
+    let of_5 = page_checksum(&page, 5);
+    let of_6 = page_checksum(&page, 6);
+    put_bytes(&mut page, 8, &of_5.to_le_bytes());
+    let both = format!(in rt.alloc();
+        "fault 3 6 checksum {of_5} expected {of_6}\nfault 3 6 misplaced 70000\n"
+    )?;
+    let rows = [
+        ("its own", &SUMMED, 5, ""),
+        ("not looked at", &PLAIN, 5, "fault 3 5 misplaced 70000\n"),
+        ("of another block", &SUMMED, 6, both.as_str()),
+    ];
+    for (name, options, block, wanted) in rows {
+        let lines = lines_of(&rt, options, block, &page)?;
         assert_eq!(rt; lines.as_str(), wanted, "{name}");
     }
     Ok(())

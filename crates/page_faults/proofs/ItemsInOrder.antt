@@ -1,7 +1,7 @@
 -- Items that stand one below the other.
 use Rattle.std.proofs.Common.{◌/◌, ◌%◌, ◌≡◌, ℕ, zero, suc, ◌+◌, ◌-◌, ◌<◌, ◌≤◌, List, [], ◌∷◌, ◌++◌, Bool, true}
 use Rattle.std.proofs.Common.{false, refl, sym, ◌∙◌, ap, subst, cond, arith}
-use Rattle.std.specs.Prelude.{Option, Some, None, IfSome, ◌&&◌, ◌||◌, ◌==◌, not, nat_lt}
+use Rattle.std.specs.Prelude.{Option, Some, None, IfSome, is_some, ◌&&◌, ◌||◌, ◌==◌, not, nat_lt}
 use Rattle.std.specs.List.{list_all}
 use Rattle.std.specs.Option.{option_or}
 use Rattle.std.proofs.lemmas.Bool.{lt-leb}
@@ -56,6 +56,13 @@ tuple_faults-none options item length header hoff mask xmin xmax =
     ∙ ap (λ (t : Bool). fault_if t two ++ fault_if made three ++ fault_if gone four) mask
     ∙ ap (λ (t : Bool). fault_if t three ++ fault_if gone four) xmin
     ∙ ap (λ (t : Bool). fault_if t four) xmax
+
+-- where the next transaction is not known, any may have begun
+pub xid_unknown : (asked : Bool) (next : Option ℕ) (xid : ℕ) → is_some next ≡ false
+    → (asked && has_not_begun next xid) ≡ false
+xid_unknown true None xid is = refl
+xid_unknown false next xid is = refl
+xid_unknown true (Some n) xid is = absurd (cc)
 
 -- where each of some pieces is free, no item has the first
 all_free : (page items : List ℕ) (more from : ℕ)
@@ -149,6 +156,7 @@ good-more options block page index begin pointer header is normal inside end goo
           ∙ sym (own_faults options page index pointer.length header normal place size so)
           ∙ good.none (index + 1);
       aligned = inside_aligned (header_of page) pointer inside;
+      within = omega (arith, end, are.within);
       free = λ piece below.
           let lower : piece < first_piece (line_pointer_of page index) = omega (arith, first) in
           let high : piece < begin / 8 = omega (arith, last) in
@@ -175,6 +183,7 @@ good-other options block page index begin other none are =
       free = λ piece below.
           ap (λ (list : List ℕ). owner_of page list piece) same ∙ are.free piece below;
       aligned = are.aligned;
+      within = are.within;
       here = ap (λ (list : List ℕ). list_all (names_block block page) (witnesses_of page list)) same
           ∙ are.here;
     }
@@ -215,6 +224,7 @@ unfolding owner_of witnesses_of
 good-none options block page = record {
   none = items_faults-none options page;
   aligned = refl;
+  within = omega arith;
   free = λ piece below. refl;
   here = refl;
 }

@@ -1,5 +1,5 @@
 -- Items that stand one below the other and have no fault, as most pages have them.
-use Rattle.std.specs.Prelude.{◌/◌, ◌%◌, false, ◌≡◌, ℕ, ◌<◌, Bool, true, ◌||◌, not, ◌==◌, List, [], None}
+use Rattle.std.specs.Prelude.{◌/◌, ◌%◌, ◌≤◌, false, ◌≡◌, ℕ, ◌<◌, Bool, true, ◌||◌, not, ◌==◌, List, [], None}
 use Rattle.std.specs.List.{list_all}
 use Rattle.page_check.specs.declared.fields.Kind.{Kind}
 use Rattle.page_check.specs.declared.fields.Kind.TheVariants.{Unused, Normal, Redirect, Dead}
@@ -38,5 +38,6 @@ pub record AreGood (options : CheckOptions) (block : ℕ) (page : List ℕ) (ind
     : Type 0 where
   pub none : items_faults options page index ≡ []
   pub aligned : begin % 8 ≡ 0
+  pub within : begin ≤ 8192
   pub free : (piece : ℕ) → piece < begin / 8 → owner_of page (placed_items page index) piece ≡ None
   pub here : list_all (names_block block page) (witnesses_of page (placed_items page index)) ≡ true

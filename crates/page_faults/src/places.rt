@@ -12,7 +12,7 @@ use page_check::{Kind, LinePointer, Page, PageHeader, header};
 pub(crate) const PIECES: usize = 1024;
 
 /// How short the header of a tuple can be: `MAXALIGN(SizeofHeapTupleHeader)`.
-const SHORTEST: u16 = 24;
+pub(crate) const SHORTEST: u16 = 24;
 
 /// The place of a normal item on its page.
 #[derive(Clone, Copy, Debug, PartialEq, Eq)]
@@ -27,7 +27,7 @@ pub(crate) enum Place {
 
 #[inline]
 #[tactic(auto, unfolding(crate::specs::Places::is_outside))]
-pub(crate) fn is_outside(header: &PageHeader, pointer: LinePointer) -> bool
+fn is_outside(header: &PageHeader, pointer: LinePointer) -> bool
     ensures { result ≡ is_outside header.now pointer }
 {
     let end = u32::from(pointer.offset) + u32::from(pointer.length);

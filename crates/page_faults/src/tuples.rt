@@ -105,10 +105,10 @@ pub(crate) fn has_fault(options: &CheckOptions, len: u16, header: &TupleHeader) 
     if has_bits(header.mask, COMMITTED_MULTI) {
         return true;
     }
-    if is_wrong_xmin(options, header) {
-        return true;
+    if options.next_xid.is_none() {
+        return false;
     }
-    is_wrong_xmax(options, header)
+    is_wrong_xmin(options, header) || is_wrong_xmax(options, header)
 }
 
 /// Reports what is wrong with the header of a tuple, whose item has this number, and this length in
