@@ -21,7 +21,7 @@ KINDS = {
 }
 PATTERNS = {kind: re.compile(re.sub(r"(\w+) N", r"\1 (?P<\1>\\d+)", words)) for kind, words in KINDS.items()}
 FAULT = re.compile(r"fault (\d+) (\d+) (.+)")
-SUMS = re.compile(r"pages \d+ new \d+ faults \d+")
+SUMS = re.compile(r"pages \d+ new (\d+) faults \d+")
 
 
 def fault_of(line):
@@ -36,7 +36,9 @@ def fault_of(line):
 
 
 def read_output(text):
-    """The faults, and whether they are all: then the sums stand behind them, and nothing else."""
+    """The faults, and how many pages are new. That is None where the faults may not be all: else the sums
+    stand behind them, and nothing else."""
     lines = text.splitlines()
     faults = [fault for fault in map(fault_of, lines) if fault]
-    return faults, len(lines) == len(faults) + 1 and bool(SUMS.fullmatch(lines[-1]))
+    sums = SUMS.fullmatch(lines[-1]) if len(lines) == len(faults) + 1 else None
+    return faults, int(sums[1]) if sums else None

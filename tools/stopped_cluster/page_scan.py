@@ -13,19 +13,20 @@ EVERY = 0.5
 # Statuses of a run that has read all, and of one that could not.
 ALL_READ, PART_READ = (0, 1), (3, 5, 6, 7)
 
-# line: the last one of its error stream.
-Run = collections.namedtuple("Run", "status whole faults line")
+# line: the last one of its error stream. new: how many pages are new, where it is whole.
+Run = collections.namedtuple("Run", "status whole faults new line")
 
 
 class Scan:
     """What all runs over a cluster share. Each of so many backends, and one worker more, opens each file.
-    limits: the program's words for the LSNs and transactions that there may be."""
+    limits: the program's words for the LSNs and transactions that there may be. new: how many pages that
+    were read so far are new."""
 
     def __init__(self, data, program, report, checksums, limits, jobs):
         self.data, self.program, self.report = data, program, report
         self.checksums, self.limits = checksums, limits
         self.jobs, self.disks = jobs, 2 * jobs + 1
-        self.done = self.total = 0
+        self.done = self.total = self.new = 0
 
     def words(self, numbered):
         """The program's words of every run: options that hold for all files belong here."""
@@ -96,9 +97,9 @@ class Batch:
         child = subprocess.Popen(words, cwd=self.over.data, stdin=subprocess.DEVNULL, stdout=subprocess.PIPE,
                                  stderr=subprocess.PIPE)
         out, err = (it.decode("utf-8", "replace") for it in self.wait_for(child))
-        faults, all_told = read_output(out)
+        faults, new = read_output(out)
         line = err.splitlines()[-1] if err else "it has printed no sums"
-        return Run(child.returncode, all_told and child.returncode in ALL_READ, faults, line)
+        return Run(child.returncode, new is not None and child.returncode in ALL_READ, faults, new, line)
 
     def wait_for(self, child):
         """What it writes on both streams. Meanwhile progress is shown, by what it has read."""
@@ -123,6 +124,7 @@ class Batch:
         middle = len(self.files) // 2
         if run.whole:
             self.tell(run.faults)
+            self.over.new += run.new
         elif run.status not in PART_READ:
             self.report.cannot_read(f"{self.over.program} ended with status {run.status}: {run.line}")
         elif middle:

@@ -4,6 +4,7 @@ import collections, os, re, stat
 from stopped_cluster.page_check import PAGE, SEGMENT
 
 SEGMENT_FILE = re.compile(r"((?:t\d+_)?\d+(?:_(?:fsm|vm|init))?)(?:\.(\d{1,5}))?")
+FORK = re.compile("_(fsm|vm|init)$")
 
 # alone: it is the only segment of its relation.
 File = collections.namedtuple("File", "path number size alone")

@@ -1,24 +1,26 @@
 """Damage to standard output, everything else to the error stream, and how much there was of each."""
-import collections, json, re, sys
+import collections, json, sys
 
-from stopped_cluster.relation_files import SEGMENT_FILE
+from stopped_cluster.relation_files import FORK, SEGMENT_FILE
 
 
 def relation_of(path):
     """The path of a relation's first file of its main fork."""
     folder, _, name = path.rpartition("/")
     match = SEGMENT_FILE.fullmatch(name)
-    return f"{folder}/{re.sub('_(fsm|vm|init)$', '', match[1])}" if match else path
+    return f"{folder}/{FORK.sub('', match[1])}" if match else path
 
 
 class Report:
     """What is told of a run. name_of gives the name of a relation's file, or nothing. Of each relation
-    by_relation counts the damages, and blocks the blocks that have some. place: that of the last one."""
+    by_relation counts the damages, and blocks the blocks that have some. place: that of the last one.
+    notes: what each note says of a file, for the last line of JSON."""
 
     def __init__(self, as_json=False, quiet=False):
         self.as_json, self.quiet = as_json, quiet
         self.name_of = lambda path: None
         self.damages = self.unread = 0
+        self.notes = []
         self.by_relation, self.blocks, self.place = collections.Counter(), collections.Counter(), None
         self.shows_progress = not quiet and sys.stderr.isatty()
         sys.stdout.reconfigure(errors="backslashreplace")
@@ -39,6 +41,12 @@ class Report:
         else:
             place = path if block is None else f"{path} block {block}"
             print(f"{place}{in_brackets(name)}: {text}", flush=True)
+
+    def note(self, path, kind, text, **facts):
+        """What is worth a look in a file, and no damage."""
+        name = self.name_of(relation_of(path))
+        self.notes.append({"file": path, **fields_of(name), "note": kind, "text": text, **facts})
+        self.tell(f"{path}{in_brackets(name)}: {text}")
 
     def cannot_read(self, text, count=1):
         self.unread += count
@@ -75,7 +83,7 @@ class Report:
                           "blocks": self.blocks[relation]}
                          for relation, count in self.by_relation.items()]
             print(json.dumps({"files": files, "damages": self.damages, "unread": self.unread,
-                              "relations": relations, "status": self.status()}), flush=True)
+                              "relations": relations, "notes": self.notes, "status": self.status()}), flush=True)
 
 
 def some(count, what):

@@ -90,7 +90,7 @@ class PageFaults(Cluster):
         self.write("base/5/16384", page(0) + with_checksum(raw, 1))
         self.assertEqual(self.run_script("-q", self.data), (0, [], []))
 
-    def test_limits_hold_after_a_clean_shutdown_alone(self):
+    def test_limits_hold_after_a_clean_shutdown_or_where_they_are_asked_for(self):
         raw = bytearray(two_rows(1))
         struct.pack_into("<2I", raw, 0, 1, 0xA9)
         raw[18] = 3
@@ -101,6 +101,7 @@ class PageFaults(Cluster):
                 ([], every, lambda: None),
                 (["--no-limits"], every[1:2], lambda: None),
                 ([], every[1:2], lambda: self.write("global/pg_control", control(state=IN_PRODUCTION))),
+                (["--limits"], every, lambda: self.write("global/pg_control", control(state=IN_PRODUCTION))),
                 ([], every[1:2], lambda: self.write("backup_label", b"")),
                 ([], every[1:2], lambda: self.write("postmaster.pid", b"")),
                 ([], every[1:2], lambda: os.remove(f"{self.data}/global/pg_control"))]:

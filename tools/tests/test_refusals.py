@@ -46,6 +46,7 @@ class Refusals(Cluster):
         status, _, err = self.run_script(self.data)
         self.assertEqual(status, 0)
         self.assertIn("there is no global/pg_control", err[0])
+        self.assertIn("--limits needs a pg_control", self.refused("--limits", self.data))
 
     def test_incremental_backups(self):
         self.write("base/5/INCREMENTAL.16384", b"x")
