@@ -2,10 +2,9 @@
 they are no damage by themselves. A page that the disk has lost looks the same."""
 import collections, mmap, os
 
-from stopped_cluster.page_check import PAGE, SEGMENT
+from stopped_cluster.page_check import PAGE, SEGMENT, ZEROS
 from stopped_cluster.relation_files import FORK, segment_name
 
-ZEROS = bytes(PAGE)
 UPPER, SPECIAL = 14, 16
 # So many ranges of blocks are named.
 MOST_RANGES = 8

@@ -2,6 +2,7 @@
 import struct
 
 PAGE, SEGMENT = 8192, 131072
+ZEROS = bytes(PAGE)
 # checksumBaseOffsets of PostgreSQL's checksum_impl.h.
 OFFSETS = bytes.fromhex(
     "5b1f36e9b852596002ab50aa1de66d2a79ff467a9bb9f8a3217e7cd283e13d2cf8d4474fe39eb97042c6ae16993216fa"

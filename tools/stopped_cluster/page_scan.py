@@ -1,6 +1,7 @@
 """Runs `aioscan --check` over relation files, and tells each fault that it finds."""
-import collections, os, re, resource, subprocess, tempfile
+import collections, itertools, os, re, resource, subprocess, tempfile
 
+from stopped_cluster import far_segments
 from stopped_cluster.check_output import read_output
 from stopped_cluster.page_check import PAGE, SEGMENT
 from stopped_cluster.relation_files import segment_name
@@ -28,32 +29,30 @@ class Scan:
         self.jobs, self.disks = jobs, 2 * jobs + 1
         self.done = self.total = self.new = 0
 
-    def words(self, numbered):
+    def words(self):
         """The program's words of every run: options that hold for all files belong here."""
         words = [self.program, "--check", "--backends", str(self.jobs), "--workers", str(self.jobs + 1)]
-        return words + self.limits + ["--checksums"] * (self.checksums and numbered)
+        return words + self.limits + ["--checksums"] * self.checksums
 
     def look_at(self, files):
-        """Scans all files, those of each segment number by themselves."""
+        """Scans all files, those of each segment number by themselves. One behind the sixteenth may have a
+        line for each page, so it is scanned alone."""
         self.total = sum(it.size for it in files)
-        for number in range(MOST_SEGMENTS):
-            self.look_at_batches([it for it in files if it.number == number], number, True)
-        rest = [it for it in files if it.number >= MOST_SEGMENTS]
-        self.look_at_batches(rest, 0, False)
+        for zeros in range(MOST_SEGMENTS):
+            here = [it for it in files if it.number % MOST_SEGMENTS == zeros]
+            self.look_at_batches([it for it in here if it.number == zeros], zeros, MOST_WORDS)
+            self.look_at_batches([it for it in here if it.number != zeros], zeros, 1)
         self.report.clear_progress()
-        for it in rest:
-            self.report.tell(f"{it.path}: neither checksums nor misplaced pages are looked for, "
-                             f"since it lies behind block {MOST_SEGMENTS * SEGMENT - 1}")
 
-    def look_at_batches(self, files, zeros, numbered):
+    def look_at_batches(self, files, zeros, most):
         """Scans so many files at a time as may be open together, with the segments before each."""
         limit = resource.getrlimit(resource.RLIMIT_NOFILE)[0]
         room = MOST_WORDS * (zeros + 1) if limit == resource.RLIM_INFINITY else (limit - OTHER_DESCRIPTORS) // self.disks
-        most = max(1, min(room // (zeros + 1), MOST_WORDS))
+        most = max(1, min(room // (zeros + 1), most))
         for begin in range(0, len(files), most):
             part = files[begin : begin + most]
             with tempfile.TemporaryDirectory() as links:
-                Batch(self, link_all(self.data, links, part, zeros), zeros, numbered).scan()
+                Batch(self, link_all(self.data, links, part, zeros), zeros).scan()
             self.done += sum(it.size for it in part)
 
 
@@ -78,22 +77,24 @@ def link_all(data, links, files, zeros):
 class Batch:
     """Files that the program looks at in one run: the word, the path below the data folder and the
     number of the segment of each. So many segments of zeros, which are not read, stand before each.
-    numbered: the blocks then have their own numbers, which checksums and tuples hold."""
+    Then the blocks have their own numbers, but for those of a segment behind the sixteenth."""
 
-    def __init__(self, scan, files, zeros, numbered):
-        self.over, self.files, self.zeros, self.numbered = scan, files, zeros, numbered
-        self.report = scan.report
+    def __init__(self, scan, files, zeros):
+        self.over, self.files, self.zeros, self.report = scan, files, zeros, scan.report
 
     def part(self, begin, end):
-        return Batch(self.over, self.files[begin:end], self.zeros, self.numbered)
+        return Batch(self.over, self.files[begin:end], self.zeros)
 
-    def blocks_before(self, number):
-        """How many blocks of its relation stand before those that the program counts in a segment."""
-        return (number - self.zeros) * SEGMENT
+    def blocks_before(self, file):
+        """How many blocks of its relation stand before those that the program counts in a file."""
+        return (self.files[file][2] - self.zeros) * SEGMENT
+
+    def path(self, file):
+        return f"{self.over.data}/{self.files[file][1]}"
 
     def run(self, options):
         """Runs aioscan over these files."""
-        words = [*self.over.words(self.numbered), *options, "--", *(word for word, _, _ in self.files)]
+        words = [*self.over.words(), *options, "--", *(word for word, _, _ in self.files)]
         child = subprocess.Popen(words, cwd=self.over.data, stdin=subprocess.DEVNULL, stdout=subprocess.PIPE,
                                  stderr=subprocess.PIPE)
         out, err = (it.decode("utf-8", "replace") for it in self.wait_for(child))
@@ -110,10 +111,20 @@ class Batch:
                 self.report.progress(self.over.done + bytes_read_by(child.pid), self.over.total)
 
     def tell(self, faults):
+        for file, found in itertools.groupby(faults, lambda it: it.file):
+            before = self.blocks_before(file)
+            self.tell_own(file, far_segments.own_faults(self.path(file), before, list(found)) if before else found)
+
+    def tell_own(self, file, faults):
         for it in faults:
-            _, path, number = self.files[it.file]
-            if self.numbered or it.kind != "misplaced":
-                self.report.damage(path, self.blocks_before(number) + it.block, it.kind, it.text, **it.facts)
+            self.report.damage(self.files[file][1], self.blocks_before(file) + it.block, it.kind, it.text, **it.facts)
+
+    def tell_untold(self, faults):
+        """Tells which pages of a segment behind the sixteenth have the checksum of the block that the program
+        takes them for."""
+        begin = self.zeros * SEGMENT
+        blocks = range(begin, begin + os.path.getsize(self.path(0)) // PAGE)
+        self.tell_own(0, far_segments.faults_untold(self.path(0), self.blocks_before(0), blocks, faults))
 
     def first(self):
         return ["--from", str(self.zeros * SEGMENT)] if self.zeros else []
@@ -125,6 +136,8 @@ class Batch:
         if run.whole:
             self.tell(run.faults)
             self.over.new += run.new
+            if self.over.checksums and self.blocks_before(0):
+                self.tell_untold(run.faults)
         elif run.status not in PART_READ:
             self.report.cannot_read(f"{self.over.program} ended with status {run.status}: {run.line}")
         elif middle:
@@ -135,14 +148,14 @@ class Batch:
 
     def scan_past_unread(self, run):
         """Goes on behind each block of this one file that could not be read."""
-        [(_, path, number)] = self.files
+        [(_, path, _)] = self.files
         self.tell(run.faults)
         while not run.whole:
             unread = re.fullmatch(r"unread page 0 (\d+)", run.line)
             if not unread:
                 return self.report.cannot_read(f"{path}: {run.line}")
             block = int(unread[1])
-            self.report.cannot_read(f"{path} block {self.blocks_before(number) + block}: could not be read")
+            self.report.cannot_read(f"{path} block {self.blocks_before(0) + block}: could not be read")
             run = self.run(["--combine", "1", "--from", str(block + 1)])
             self.tell(run.faults)
 

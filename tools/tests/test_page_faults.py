@@ -3,7 +3,8 @@ import json, os, struct, tempfile, unittest
 
 from made_cluster import (COMMITTED, IN_PRODUCTION, NO_DELETER, PAGE, SEGMENT, Cluster, control, page,
                           with_checksum)
-from stopped_cluster import page_scan
+from stopped_cluster import far_segments, page_scan
+from stopped_cluster.page_check import stored_checksum as stored
 from stopped_cluster.relation_files import File
 
 # Of a page of two rows: its tuples, and the first line pointer, which the second one follows.
@@ -129,18 +130,37 @@ class PageFaults(Cluster):
                 _, out, _ = self.run_script("-q", "--no-names", *words, self.data)
                 self.assertEqual(out, expected)
 
-    def test_segments_behind_the_sixteenth_have_no_block_numbers(self):
-        path = "base/5/16384.16"
-        raw = bytearray(two_rows(0))
-        raw[TUPLE + 22] = 200
-        self.write(path, two_rows(16 * SEGMENT) + bytes(raw))
-        for words in ([], ["--no-checksums"]):
-            with self.subTest(words):
-                _, out, err = self.run_script("--no-names", *words, self.data)
+    def test_segments_behind_the_sixteenth_have_their_block_numbers(self):
+        """The program counts no block 2097152, and is told of block 0."""
+        begin = 16 * SEGMENT
+        path, wrong_length = "base/5/16384.16", bytearray(two_rows(begin + 1))
+        wrong_length[TUPLE + 22] = 200
+        as_block_1 = f"checksum {stored(two_rows(1))} expected {stored(with_checksum(two_rows(1), begin + 1))}"
+        for second, words, expected in [
+                (two_rows(begin + 1), [], []),
+                (two_rows(begin + 1), ["--no-checksums"], []),
+                (with_checksum(wrong_length, begin + 1), [], ["item 1 hoff 200 expected 24"]),
+                (two_rows(1), [], [as_block_1]),
+                (two_rows(5), ["--no-checksums"], ["misplaced 5"]),
+                (with_checksum(two_rows(5), begin + 1), [], []),
+                (two_rows(begin + 1)[:8] + bytes(2) + two_rows(begin + 1)[10:], [],
+                 [f"checksum 0 expected {stored(two_rows(begin + 1))}"])]:
+            with self.subTest(expected=expected, words=words):
+                self.write(path, two_rows(begin) + second + bytes(PAGE))
+                _, out, _ = self.run_script("-q", "--no-names", *words, self.data)
                 self.assertEqual([it for it in out if path + " block" in it],
-                                 [f"{path} block {16 * SEGMENT + 1}: item 1 hoff 200 expected 24"])
-                self.assertIn(f"damaged_pages: {path}: neither checksums nor misplaced pages are looked for, "
-                              f"since it lies behind block {16 * SEGMENT - 1}", err)
+                                 [f"{path} block {begin + 1}: {it}" for it in expected])
+
+    def test_checksums_of_segments_behind_the_sixteenth(self):
+        """What is expected of another segment tells, but for a few values, what the checksum is."""
+        for number, block, sums in [(16, 0, 2), (31, SEGMENT - 1, 2), (48, 7, 4), (100, 5, 4)]:
+            with self.subTest(number):
+                before = number // 16 * 16 * SEGMENT
+                counted = page(number * SEGMENT + block - before)
+                right = stored(with_checksum(counted, number * SEGMENT + block))
+                passed = [it for it in range(65536) if far_segments.may_be_right(it, stored(counted), before)]
+                self.assertIn(right, passed)
+                self.assertEqual(len(passed), sums)
 
     def test_links_are_made_where_segments_follow(self):
         files = [File("base/5/16384", 0, PAGE, True), File("base/5/16390", 0, PAGE, False)]
