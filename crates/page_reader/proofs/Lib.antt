@@ -1,0 +1,4 @@
+pub mod PagesInOrder
+pub mod FailedReadCounts
+pub mod UnreadBlocks
+pub mod ForCallers

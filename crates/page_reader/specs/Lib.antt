@@ -1,0 +1,3 @@
+pub mod PagesTaken
+pub mod Settings
+pub mod Readers
