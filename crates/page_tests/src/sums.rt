@@ -7,10 +7,13 @@ use std::test::Fail;
 // Lower, upper and special.
 type Bounds = (u16, u16, u16);
 
+// As many as the greatest number of 16 bits gives as lower.
+const MOST_ITEMS: u16 = 16_377;
+
 // The sums with one page more, of which so many faults were told, where they are small.
 fn with_page(mut sums: PageSums, page: &Page, faults: u32) -> PageSums {
     let greatest = sums.pages.max(sums.zero).max(sums.items).max(sums.faults);
-    if greatest < 1_000_000 && count(page) < 3_000 {
+    if greatest < 1_000_000 && count(page) <= MOST_ITEMS {
         tally(page, faults, &mut sums);
     }
     sums
