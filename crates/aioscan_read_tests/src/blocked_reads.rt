@@ -69,7 +69,7 @@ struct Row {
 // for which a worker reads makes no read, so only workers are counted where there are some. No run
 // has more than 64 reads for workers: the queue is never full of what a backend has read already.
 // Of the reads of a relation that are under way together its backend makes one at most.
-const ROWS: [Row; 8] = [
+const ROWS: [Row; 9] = [
     Row {
         name: "three workers",
         line: "--workers 3 --backends 1 --combine 1 f",
@@ -103,6 +103,14 @@ const ROWS: [Row; 8] = [
         from: 3,
         reads: 3,
         by_workers: 12,
+    },
+    Row {
+        name: "two backends",
+        line: "--method sync --backends 2 f",
+        size: (1, 1024),
+        from: 0,
+        reads: 2,
+        by_workers: 0,
     },
     // With four backends the first two rounds of shares have four jobs each.
     Row {

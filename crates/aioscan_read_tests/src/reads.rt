@@ -49,8 +49,10 @@ fn reads_of_one_backend_that_fail(rt: HostRuntime) -> Result<(), Fail> {
 }
 
 // A file that is named twice has as many blocks as the pool has frames, so the second time each
-// page is in the pool. The reads are of 1, 2, 4, 8 and then 16 blocks, in jobs of 64: so many.
-const FRAMES: [(&str, u128); 4] = [
+// page is in the pool. The reads are of 1, 2, 4, 8 and then 16 blocks, in jobs of 64: so many. Of a
+// file of more blocks the pool has lost the first ones by then, and each later one again before it
+// is wanted.
+const FRAMES: [(&str, u128); 5] = [
     (
         "17 frames | f:17E | --buffers 17 f f | 0/0-16 0/0-16 | | 0",
         5,
@@ -64,10 +66,14 @@ const FRAMES: [(&str, u128); 4] = [
         8,
     ),
     ("128 frames | f:128E | f f | 0/0-127 0/0-127 | | 0", 16),
+    (
+        "16 frames of 64 blocks | f:64E | --buffers 16 f f | 0/0-63 0/0-63 | | 0",
+        16,
+    ),
 ];
 
 #[test]
-fn a_file_of_as_many_blocks_as_frames_is_read_once(rt: HostRuntime) -> Result<(), Fail> {
+fn a_pool_keeps_as_many_pages_as_it_has_frames(rt: HostRuntime) -> Result<(), Fail> {
     for (row, reads) in FRAMES {
         let done = check_row(&rt, "--method sync --backends 1", row)?;
         assert_eq!(rt; done.report.incarnations, reads, "{row}");
@@ -96,12 +102,16 @@ fn one_stream_reads_the_jobs_of_a_share(rt: HostRuntime) -> Result<(), Fail> {
     check_rows(&rt, "--method sync --backends 2", &rows)
 }
 
-// Beside a worker one backend has shares of 1, 1, 2, 4 and more jobs: 8, 8, 12, 20 and 12 reads.
-// Alone it has shares of one job.
-const LONE: [(&str, u128); 2] = [
+// Beside a worker one backend has shares of 1, 1, 2, 4, 8, 8 and 8 jobs. A share has 4 reads more than
+// its jobs have blocks by 16: 8 for one job, and 36 for eight. Alone it has shares of one job.
+const LONE: [(&str, u128); 3] = [
     (
         "beside a worker | f:640E | --workers 1 f | 0/0-639 | | 0",
         60,
+    ),
+    (
+        "up to eight jobs | f:2048E | --workers 1 f | 0/0-2047 | | 0",
+        156,
     ),
     ("alone | f:640E | --method sync f | 0/0-639 | | 0", 80),
 ];

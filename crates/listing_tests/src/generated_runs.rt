@@ -1,6 +1,6 @@
 //! Generated pages.
-use aioscan_fixtures::runs::{TestOutcome, check_over};
-use page_fixtures::files::STEADY;
+use aioscan_fixtures::runs::{TestOutcome, check_outcome, check_over, run};
+use page_fixtures::files::{STEADY, one_file};
 use row_fixtures::files::empty_file;
 use std::process::Abort;
 use std::sync::Wait;
@@ -50,4 +50,13 @@ fn totals_of_generated_pages(rt: HostRuntime) -> Result<(), Fail> {
     let totals = "incarnations 4 workers 0 backends 4\n";
     let wanted = ("pages 10 new 1 items 19\n", totals, 0);
     check_generated(&rt, "--make 10 --method sync --backends 1 --stats", wanted)
+}
+
+#[test]
+fn totals_where_the_output_fails(rt: HostRuntime) -> Result<(), Fail> {
+    let line = "--make 10 --method sync --backends 1 --stats";
+    let files = one_file(rt.alloc(), "f", Vec::new(rt.alloc()))?;
+    let done = run(&rt, files, STEADY, line, (&[(1, 0)], &[]))?;
+    let said = "cannot write\nincarnations 4 workers 0 backends 4\n";
+    check_outcome(line, &done, ("", said, 4))
 }

@@ -7,6 +7,8 @@ mod checks;
 #[cfg(test)]
 mod generated_runs;
 #[cfg(test)]
+mod limits;
+#[cfg(test)]
 mod map_reads;
 #[cfg(test)]
 mod map_runs;
