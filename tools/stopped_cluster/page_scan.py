@@ -19,19 +19,20 @@ Run = collections.namedtuple("Run", "status whole faults new line")
 
 
 class Scan:
-    """What all runs over a cluster share. Each of so many backends, and one worker more, opens each file.
+    """What all runs over a cluster share. Each of so many backends opens each file, and reads by itself: no
+    page waits for a worker, and as many reads are under way as backends.
     limits: the program's words for the LSNs and transactions that there may be. new: how many pages that
     were read so far are new."""
 
     def __init__(self, data, program, report, checksums, limits, jobs):
         self.data, self.program, self.report = data, program, report
         self.checksums, self.limits = checksums, limits
-        self.jobs, self.disks = jobs, 2 * jobs + 1
+        self.jobs = jobs
         self.done = self.total = self.new = 0
 
     def words(self):
         """The program's words of every run: options that hold for all files belong here."""
-        words = [self.program, "--check", "--backends", str(self.jobs), "--workers", str(self.jobs + 1)]
+        words = [self.program, "--check", "--method", "sync", "--backends", str(self.jobs)]
         return words + self.limits + ["--checksums"] * self.checksums
 
     def look_at(self, files):
@@ -47,7 +48,7 @@ class Scan:
     def look_at_batches(self, files, zeros, most):
         """Scans so many files at a time as may be open together, with the segments before each."""
         limit = resource.getrlimit(resource.RLIMIT_NOFILE)[0]
-        room = MOST_WORDS * (zeros + 1) if limit == resource.RLIM_INFINITY else (limit - OTHER_DESCRIPTORS) // self.disks
+        room = MOST_WORDS * (zeros + 1) if limit == resource.RLIM_INFINITY else (limit - OTHER_DESCRIPTORS) // self.jobs
         most = max(1, min(room // (zeros + 1), most))
         for begin in range(0, len(files), most):
             part = files[begin : begin + most]
