@@ -95,8 +95,10 @@ class RelationFiles:
                 continue
             if size % PAGE:
                 block = number * SEGMENT + size // PAGE
-                self.report.damage(name, None, "torn", f"ends in {size % PAGE} bytes of block {block}")
+                self.report.damage(name, None, "torn", f"ends in {size % PAGE} bytes of block {block}",
+                                   bytes=size % PAGE, last_block=block)
             if size // PAGE < SEGMENT and later:
                 follows = segment_name(first, min(later))
                 self.report.damage(name, None, "segment_short",
-                                   f"has {size // PAGE} blocks, though {follows} follows")
+                                   f"has {size // PAGE} blocks, though {follows} follows",
+                                   blocks=size // PAGE, follows=follows)

@@ -107,6 +107,7 @@ class Damage(Cluster):
         status, out, err = self.run_script(self.data)
         self.assertEqual((status, out), (0, []))
         self.assertTrue(any("base backup" in it for it in err))
+        self.assertIn("damaged_pages: so missing files and new pages are not looked for", err)
 
     def test_rows_of_transactions_that_did_not_commit_name_no_missing_file(self):
         aborted = class_row(20000, "aborted", 20000)
@@ -143,7 +144,7 @@ class Damage(Cluster):
         self.assertEqual((status, err), (1, []))
         self.assertEqual(damage, {"file": "base/5/16384", "block": None, "database": "shop", "schema": "public",
                                   "relation": "orders", "kind": "table", "of": None, "damage": "torn",
-                                  "text": "ends in 4 bytes of block 1"})
+                                  "text": "ends in 4 bytes of block 1", "bytes": 4, "last_block": 1})
         self.assertEqual([sums[it] for it in ("files", "damages", "unread", "status")], [8, 1, 0, 1])
         self.assertEqual([[it["relation"], it["damages"], it["blocks"]] for it in sums["relations"]],
                          [["orders", 1, 0]])

@@ -21,7 +21,7 @@ class NewPages(Cluster):
         """What the notes of a run say. It finds no damage."""
         status, out, err = self.run_script(*words, self.data)
         self.assertEqual((status, out), (0, []))
-        return [it.removeprefix("damaged_pages: ") for it in err if "new pages" in it]
+        return [it.removeprefix("damaged_pages: ") for it in err if "new pages before" in it]
 
     def test_a_note_names_the_table_and_the_blocks(self):
         for pages, blocks in [(page(0) + NEW + page(2), "block 1"), (NEW + page(1), "block 0"),

@@ -1,5 +1,5 @@
 """Each fault of a page has its line and its facts, the limits of a clean shutdown and the numbers of its blocks."""
-import json, os, struct, tempfile, unittest
+import json, os, struct, subprocess, tempfile, unittest
 
 from made_cluster import (COMMITTED, IN_PRODUCTION, NO_DELETER, PAGE, SEGMENT, Cluster, control, page,
                           with_checksum)
@@ -24,6 +24,12 @@ def pointer(offset, kind, length):
 
 def number(value):
     return struct.pack("<I", value)
+
+
+def process_that_has_ended():
+    child = subprocess.Popen(["true"])
+    child.wait()
+    return child.pid
 
 
 # Of each fault its text, its facts, and the bytes of block 1 that are changed: where, and into what.
@@ -105,6 +111,8 @@ class PageFaults(Cluster):
                 (["--limits"], every, lambda: self.write("global/pg_control", control(state=IN_PRODUCTION))),
                 ([], every[1:2], lambda: self.write("backup_label", b"")),
                 ([], every[1:2], lambda: self.write("postmaster.pid", b"")),
+                ([], every[1:2], lambda: self.write("postmaster.pid", b"%d\n/data\n" % os.getpid())),
+                ([], every, lambda: self.write("postmaster.pid", b"%d\n" % process_that_has_ended())),
                 ([], every[1:2], lambda: os.remove(f"{self.data}/global/pg_control"))]:
             self.setUp()
             self.write("base/5/16384", page(0) + with_checksum(raw, 1))
