@@ -2,11 +2,11 @@
 ghost use Rattle.std.specs.Prelude.{◌≡◌, ◌<◌, ◌≤◌, ◌^◌, [], length, IfOk, OnErr};
 ghost use Rattle.stream_answer.specs.StreamAnswers.{stream_entries};
 ghost use Rattle.page_reader.specs.PagesTaken.{IfStopped, PagesTaken, UnreadHasCause};
-ghost use Rattle.page_reader.specs.Readers.{TellsWorld};
+ghost use Rattle.page_reader.specs.Readers.{IsReaderWorld, TellsWorld};
 ghost use Rattle.page_reader.specs.Settings.{IsReadable, default_rules};
 
 use crate::consumer::{Ended, PageConsumer};
-use crate::memory::Memory;
+use crate::reader::PageReader;
 use crate::settings::ReaderSettings;
 use aio_disk::Disk;
 use block_source::BlockSource;
@@ -15,7 +15,7 @@ use std::alloc::AllocError;
 use std::marker::Brand;
 use std::sync::Wait;
 
-// Takes the memory, reads, and gives the disk back.
+// Opens a reader for one reading, and closes it.
 fn read_in<W: World, D: Disk, S: BlockSource<()> + Drop, C: PageConsumer, R: Wait + AllocGlobal>(
     rt: &R,
     disk: D,
@@ -24,8 +24,7 @@ fn read_in<W: World, D: Disk, S: BlockSource<()> + Drop, C: PageConsumer, R: Wai
     source: S,
     consumer: &mut C,
 ) -> (Result<Ended, AllocError>, D)
-    requires handles { W.handles ≡ 64 }
-    requires told { TellsWorld D.Disk W.World disk }
+    requires world { IsReaderWorld D.Disk W.World disk }
     requires readable { IsReadable settings.now }
     requires relation { relation < W.relations }
     requires fits { length (S.left source) < 2 ^ 32 }
@@ -40,13 +39,12 @@ fn read_in<W: World, D: Disk, S: BlockSource<()> + Drop, C: PageConsumer, R: Wai
     ensures unchanged { OnErr result.0 (consumer.new ≡ consumer.old) }
     ensures no_fault { OnErr result.0 (D.faults result.1 ≡ D.faults disk) }
 {
-    let of_stream = settings.of_stream(disk.segment());
-    match Memory::<W>::open(rt.alloc(), &of_stream, settings.frames) {
-        Ok(mut memory) => {
-            let (ended, disk) = memory.read(rt, disk, relation, source, consumer);
-            (Ok(ended), disk)
+    match PageReader::<W, D>::open(rt.alloc(), disk, settings) {
+        Ok(mut reader) => {
+            let ended = reader.for_each_page(rt, relation, source, consumer);
+            (Ok(ended), reader.close())
         }
-        Err(_) => (Err(AllocError), disk),
+        Err((error, disk)) => (Err(error), disk),
     }
 }
 

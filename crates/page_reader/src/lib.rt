@@ -16,10 +16,12 @@ mod consumer;
 mod for_each;
 mod memory;
 mod open_file;
+mod reader;
 mod reading;
 mod settings;
 
 pub use consumer::{Ended, PageConsumer};
 pub use for_each::{for_each_page, for_each_page_with};
 pub use open_file::open_relation;
+pub use reader::PageReader;
 pub use settings::ReaderSettings;

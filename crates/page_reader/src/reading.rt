@@ -2,6 +2,7 @@
 ghost use Rattle.std.specs.Prelude.{◌≡◌, ◌<◌, ◌≤◌, ◌+◌, ℕ, [], List, IfNone, IfSome, length};
 ghost use Rattle.page_check.specs.IsAnswer.{IfGiven, Page as SaidPage};
 ghost use Rattle.page_check.specs.SynchronousAnswer.{Given, IsValidUnlessDamaged};
+ghost use Rattle.aio_word.specs.Events.{lives_ended};
 ghost use Rattle.aio_handle.specs.ContractViews.{IsActorOf, IsSameActor};
 ghost use Rattle.aio_handle.specs.EndStates.{HasNoOwnerTokens};
 ghost use Rattle.aio_handle.specs.FreeHandles.{IsRoom};
@@ -187,6 +188,8 @@ pub(crate) fn read_pages<
     ensures advanced { ActorAdvanced actor.old.known actor.new.known (E.reads runner.old)
         (E.reads runner.new) (E.faults runner.old) (E.faults runner.new) }
     ensures no_owner_tokens { HasNoOwnerTokens actor.new.known }
+    ensures lives_bound { (h : ℕ) → lives_ended h actor.new.known.marks
+        ≤ lives_ended h actor.old.known.marks + length (S.left source) }
     ensures desk { IsFreeDesk desk.new × (desk_settings desk.new ≡ desk_settings desk.old) }
     ensures most { C.most consumer.new ≡ C.most consumer.old }
     ensures stopped { IfStopped (C.has_enough consumer.new) result }

@@ -1,4 +1,5 @@
-use Rattle.std.proofs.Common.{◌∙◌, sym, ap, subst}
+use Rattle.std.proofs.Common.{◌∙◌, sym, ap, subst, arith, length}
+use Rattle.aio_word.specs.Events.{lives_ended}
 use Rattle.stream_answer.specs.StreamAnswers.{stream_entries}
 use Rattle.read_stream.specs.Desks.{IsFreeDesk, desk_settings}
 use Rattle.read_stream.specs.FailedReads.{MayBeUnread}
@@ -50,3 +51,15 @@ returns-clause-taken g c =
     c.open-stream.ensures.stream c.take_all-ended.ensures.taken in
     taken_wider _ _ (may_later _ _ _ _ _ _ _ c.close-desk.ensures.advanced.actor_advanced) holds _
     _ _ ended here
+
+pub returns-clause-lives_bound : goal.returns-clause-lives_bound
+returns-clause-lives_bound g c h =
+    let later = c.take_all-ended.ensures.stream in
+    let opened = c.open-stream.ensures.stream in
+    let long = ap (λ (z : StreamView (Unit {0})). length z.blocks) later
+    ∙ ap (λ (z : StreamView (Unit {0})). length z.blocks) opened in
+    let marks = ap (λ (z : StreamView (Unit {0})). lives_ended h z.actor_was.known.marks) later
+    ∙ ap (λ (z : StreamView (Unit {0})). lives_ended h z.actor_was.known.marks) opened in
+    let few = c.close-desk.ensures.few in
+    let lived = c.close-desk.ensures.lives_bound h in
+    omega arith
