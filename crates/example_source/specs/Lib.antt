@@ -1,0 +1,2 @@
+pub mod MarkedBlocks
+pub mod Counts
