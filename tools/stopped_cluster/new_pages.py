@@ -51,17 +51,21 @@ def new_blocks(path, blocks):
         return [it for it in empty if pages[it * PAGE : (it + 1) * PAGE] == ZEROS]
 
 
-def before_others(files, count):
+def used_parts(files):
+    """The part of each relation that ends with its last page that is not new."""
+    return [used_part(files.data, first, sizes) for first, sizes in files.sizes.items()]
+
+
+def before_others(data, parts, count):
     """Each file of a table that has new pages before others: its path, and their blocks. count: how many
     new pages all files have. Mostly these are at the ends, and no file is read a second time. Otherwise
     the small ones come first, until all are found. No file may be cut meanwhile: that ends the process."""
-    parts = [used_part(files.data, first, sizes) for first, sizes in files.sizes.items()]
     left = count - sum(part.after for part in parts)
     for part in sorted(parts, key=lambda it: sum(blocks for _, _, blocks in it.segments)):
         for number, path, blocks in part.segments:
             if left <= 0:
                 return
-            found = new_blocks(f"{files.data}/{path}", blocks)
+            found = new_blocks(f"{data}/{path}", blocks)
             left -= len(found)
             if found and part.in_table:
                 yield path, [number * SEGMENT + it for it in found]

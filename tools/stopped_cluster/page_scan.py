@@ -20,41 +20,61 @@ Run = collections.namedtuple("Run", "status whole faults new line")
 
 class Scan:
     """What all runs over a cluster share. Each of so many backends opens each file, and reads by itself: no
-    page waits for a worker, and as many reads are under way as backends.
+    page waits for a worker, and as many reads are under way as backends. The first run begins with the
+    scan, so that the catalogs can be read beside it.
     limits: the program's words for the LSNs and transactions that there may be. new: how many pages that
     were read so far are new."""
 
-    def __init__(self, data, program, report, checksums, limits, jobs):
+    def __init__(self, data, program, report, checksums, limits, jobs, files):
         self.data, self.program, self.report = data, program, report
         self.checksums, self.limits = checksums, limits
         self.jobs = jobs
-        self.done = self.total = self.new = 0
+        self.done = self.new = 0
+        self.total = sum(it.size for it in files)
+        self.batches, self.child = self.batches_of(files), None
+
+    def __enter__(self):
+        self.links = tempfile.TemporaryDirectory()
+        self.first = next(self.batches, None)
+        if self.first:
+            self.first.begin()
+        return self
+
+    def __exit__(self, *_):
+        """Ends the run that nobody has waited for."""
+        if self.child:
+            self.child.kill()
+            self.child.wait()
+        self.links.cleanup()
 
     def words(self):
         """The program's words of every run: options that hold for all files belong here."""
         words = [self.program, "--check", "--method", "sync", "--backends", str(self.jobs)]
         return words + self.limits + ["--checksums"] * self.checksums
 
-    def look_at(self, files):
-        """Scans all files, those of each segment number by themselves. One behind the sixteenth may have a
-        line for each page, so it is scanned alone."""
-        self.total = sum(it.size for it in files)
-        for zeros in range(MOST_SEGMENTS):
-            here = [it for it in files if it.number % MOST_SEGMENTS == zeros]
-            self.look_at_batches([it for it in here if it.number == zeros], zeros, MOST_WORDS)
-            self.look_at_batches([it for it in here if it.number != zeros], zeros, 1)
+    def look_at_all(self):
+        """Scans all files."""
+        for batch in itertools.chain([self.first] if self.first else [], self.batches):
+            batch.scan()
+            self.done += batch.size
         self.report.clear_progress()
 
-    def look_at_batches(self, files, zeros, most):
-        """Scans so many files at a time as may be open together, with the segments before each."""
+    def batches_of(self, files):
+        """All files, those of each segment number by themselves. One behind the sixteenth may have a line
+        for each page, so it is scanned alone."""
+        for zeros in range(MOST_SEGMENTS):
+            here = [it for it in files if it.number % MOST_SEGMENTS == zeros]
+            yield from self.cut([it for it in here if it.number == zeros], zeros, MOST_WORDS)
+            yield from self.cut([it for it in here if it.number != zeros], zeros, 1)
+
+    def cut(self, files, zeros, most):
+        """So many files at a time as may be open together, with the segments before each."""
         limit = resource.getrlimit(resource.RLIMIT_NOFILE)[0]
         room = MOST_WORDS * (zeros + 1) if limit == resource.RLIM_INFINITY else (limit - OTHER_DESCRIPTORS) // self.jobs
         most = max(1, min(room // (zeros + 1), most))
         for begin in range(0, len(files), most):
-            part = files[begin : begin + most]
-            with tempfile.TemporaryDirectory() as links:
-                Batch(self, link_all(self.data, links, part, zeros), zeros).scan()
-            self.done += sum(it.size for it in part)
+            part, links = files[begin : begin + most], tempfile.mkdtemp(dir=self.links.name)
+            yield Batch(self, link_all(self.data, links, part, zeros), zeros, sum(it.size for it in part))
 
 
 def link_all(data, links, files, zeros):
@@ -80,8 +100,9 @@ class Batch:
     number of the segment of each. So many segments of zeros, which are not read, stand before each.
     Then the blocks have their own numbers, but for those of a segment behind the sixteenth."""
 
-    def __init__(self, scan, files, zeros):
+    def __init__(self, scan, files, zeros, size=0):
         self.over, self.files, self.zeros, self.report = scan, files, zeros, scan.report
+        self.size = size
 
     def part(self, begin, end):
         return Batch(self.over, self.files[begin:end], self.zeros)
@@ -93,12 +114,18 @@ class Batch:
     def path(self, file):
         return f"{self.over.data}/{self.files[file][1]}"
 
-    def run(self, options):
-        """Runs aioscan over these files."""
-        words = [*self.over.words(), *options, "--", *(word for word, _, _ in self.files)]
-        child = subprocess.Popen(words, cwd=self.over.data, stdin=subprocess.DEVNULL, stdout=subprocess.PIPE,
-                                 stderr=subprocess.PIPE)
+    def begin(self, *options):
+        """Begins to run aioscan over these files."""
+        first = ["--from", str(self.zeros * SEGMENT)] if self.zeros and not options else []
+        words = [*self.over.words(), *first, *options, "--", *(word for word, _, _ in self.files)]
+        self.over.child = subprocess.Popen(words, cwd=self.over.data, stdin=subprocess.DEVNULL,
+                                           stdout=subprocess.PIPE, stderr=subprocess.PIPE)
+
+    def end(self):
+        """Waits for the run that was begun."""
+        child = self.over.child
         out, err = (it.decode("utf-8", "replace") for it in self.wait_for(child))
+        self.over.child = None
         faults, new = read_output(out)
         line = err.splitlines()[-1] if err else "it has printed no sums"
         return Run(child.returncode, new is not None and child.returncode in ALL_READ, faults, new, line)
@@ -127,12 +154,11 @@ class Batch:
         blocks = range(begin, begin + os.path.getsize(self.path(0)) // PAGE)
         self.tell_own(0, far_segments.faults_untold(self.path(0), self.blocks_before(0), blocks, faults))
 
-    def first(self):
-        return ["--from", str(self.zeros * SEGMENT)] if self.zeros else []
-
     def scan(self):
         """Tells the faults of these files. Where a run fails, each half is run by itself."""
-        run = self.run(self.first())
+        if not self.over.child:
+            self.begin()
+        run = self.end()
         middle = len(self.files) // 2
         if run.whole:
             self.tell(run.faults)
@@ -157,7 +183,8 @@ class Batch:
                 return self.report.cannot_read(f"{path}: {run.line}")
             block = int(unread[1])
             self.report.cannot_read(f"{path} block {self.blocks_before(0) + block}: could not be read")
-            run = self.run(["--combine", "1", "--from", str(block + 1)])
+            self.begin("--combine", "1", "--from", str(block + 1))
+            run = self.end()
             self.tell(run.faults)
 
 

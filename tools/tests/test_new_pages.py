@@ -38,7 +38,7 @@ class NewPages(Cluster):
 
     def before_others(self, count):
         files = relation_files.RelationFiles(self.data, report.Report())
-        return list(new_pages.before_others(files, count))
+        return list(new_pages.before_others(files.data, new_pages.used_parts(files), count))
 
     def test_an_end_is_that_of_all_segments(self):
         self.write(TABLE, page(0) + 3 * NEW)
