@@ -19,10 +19,10 @@ def make_relation(path, pages):
         it.write(page * (pages % 256))
 
 
-def make_mix(folder, path, pages):
-    """A mix of real pages."""
+def make_mix(folder, path, *counts):
+    """A mix of real pages: so many, and where it is given with so many line pointers each."""
     with open(path, "wb") as it:
-        subprocess.run([f"{folder}/mix", str(pages)], stdout=it, check=True)
+        subprocess.run([f"{folder}/mix", *map(str, counts)], stdout=it, check=True)
 
 
 def timed(words, extra={}, to=os.devnull):

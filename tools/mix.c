@@ -6,7 +6,7 @@
 // before them, and three are unused; of 100 tuples six were updated into the next one on their
 // page. Each page that is not new has its checksum, and none has a fault.
 //
-// usage: mix PAGES >FILE
+// usage: mix PAGES [ITEMS] >FILE      with ITEMS no page is new, and each has so many line pointers
 #include <stdint.h>
 #include <stdio.h>
 #include <stdlib.h>
@@ -27,7 +27,11 @@ static uint32_t below(uint32_t bound) {
 static void put16(uint8_t *at, uint32_t n) { at[0] = n, at[1] = n >> 8; }
 static void put32(uint8_t *at, uint32_t n) { put16(at, n), put16(at + 2, n >> 16); }
 
+static int has_items;
+static uint32_t items;
+
 static uint32_t item_count(void) {
+  if (has_items) return items;
   uint32_t kind = below(100);
   if (kind < 3) return 0;
   if (kind < 13) return 1 + below(20);
@@ -51,7 +55,7 @@ static void put_tuple(uint8_t *tuple, uint32_t length, uint32_t block, uint32_t 
 
 static void put_page(uint8_t *page, uint32_t block) {
   memset(page, 0, PAGE);
-  if (below(100) == 0) return;
+  if (!has_items && below(100) == 0) return;
   uint32_t count = item_count(), offset = PAGE;
   uint32_t most = count ? (PAGE - HEADER - 4 * count) / count / 8 * 8 : 0;
   uint32_t xmin = 1000000 + 500 * (block % 5000), normal = 0;
@@ -78,7 +82,8 @@ static void put_page(uint8_t *page, uint32_t block) {
 }
 
 int main(int count, char **words) {
-  if (count != 2) return 2;
+  if (count != 2 && count != 3) return 2;
+  has_items = count == 3, items = has_items ? strtoul(words[2], NULL, 10) : 0;
   static uint8_t pages[16][PAGE];
   uint32_t total = strtoul(words[1], NULL, 10);
   for (uint32_t block = 0; block < total;) {
