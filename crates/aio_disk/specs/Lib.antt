@@ -1,3 +1,4 @@
+pub mod OpenFiles
 pub mod Counts
 pub mod Disk
 pub mod Shelf

@@ -1,8 +1,11 @@
 //! Real files as disks.
-ghost use Rattle.std.specs.Prelude.{◌≡◌, ◌≤◌, None, false, length, IfOk};
+ghost use Rattle.std.specs.Prelude.{◌≡◌, ◌≤◌, None, false, true, length, IfOk, string_eq};
+ghost use Rattle.std.specs.Cmp.Lexicographic.{pointwise};
+ghost use Rattle.aio_disk.specs.OpenFiles.{open_files};
 
 use crate::fault::counted;
 use crate::file_relation::FileRelation;
+use crate::opened_relations::OpenedRelations;
 use crate::segments::SEGMENT_SIZE;
 use crate::{DeviceFault, Disk, OpenFault, Shelf};
 use page_check::Page;
@@ -11,9 +14,9 @@ use std::rt::Files;
 
 /// Relations whose files are open for reading. It does not tell what they hold.
 ///
-/// Their files are opened when the disk is, and stay open until it is dropped: a relation takes
-/// one file descriptor for each of its segments, up to 17. A segment that comes to be later is
-/// not opened.
+/// Their files are open from the first disk over these names to the last one: a relation takes one
+/// file descriptor for each of its segments, up to 17. A segment that comes to be later is not
+/// opened.
 #[derive(Drop)]
 pub struct FileDisk {
     relations: Vec<FileRelation>,
@@ -53,29 +56,16 @@ impl Disk for FileDisk {
     }
 }
 
-// Opens the relations of these names in their order.
-fn open_relations<R: Files<File = File> + AllocGlobal>(
-    rt: &R,
-    names: &[String],
-) -> Result<Vec<FileRelation>, OpenFault>
-    ensures { IfOk result (λ relations. length relations.items ≡ length names.now) }
-{
-    let mut relations = Vec::new(rt.alloc());
-    for name in names {
-        let relation = FileRelation::open(rt, name.as_str())?;
-        relations.push(relation).map_err(|_| OpenFault::Memory)?;
-    }
-    Ok(relations)
-}
-
 /// Opens real files for reading. It does not tell what they hold.
 ///
-/// An open opens all files of all relations that it names. The file `NAME.1` is one of a relation
-/// only behind a file `NAME` of exactly 131072 whole blocks, `NAME.2` only behind such a file
-/// `NAME.1`, and so on: no other file is opened.
+/// An open opens all files of all relations that it names. A further one of just these names shares
+/// them, until a disk is taken back. The file `NAME.1` is one of a relation only behind a file
+/// `NAME` of exactly 131072 whole blocks, `NAME.2` only behind such a file `NAME.1`, and so on: no
+/// other file is opened.
 #[derive(Drop)]
 pub struct FileShelf<'r, R: Files<File = File> + AllocGlobal> {
     rt: &'r R,
+    opened: OpenedRelations,
     open_faults: u64,
     length_faults: u64,
     faults: u64,
@@ -91,11 +81,33 @@ impl<'r, R: Files<File = File> + AllocGlobal> FileShelf<'r, R> {
     {
         FileShelf {
             rt,
+            opened: OpenedRelations::none(rt.alloc()),
             open_faults: 0,
             length_faults: 0,
             faults: 0,
             reads: 0,
         }
+    }
+
+    // The relations of these names in their order: those that are open, or else those that it opens
+    // and keeps.
+    fn open_relations(&mut self, names: &[String]) -> Result<Vec<FileRelation>, OpenFault>
+        ensures length { IfOk result (λ relations. length relations.items ≡ length names.now) }
+        ensures shared { pointwise string_eq self.old.opened.names.items names.now ≡ true
+            → IfOk result (λ relations.
+            open_files relations.items ≡ open_files self.old.opened.relations.items) }
+        ensures kept { IfOk result (λ relations.
+            open_files self.new.opened.relations.items ≡ open_files relations.items) }
+        ensures counts { ⟦<FileShelf<'r, R> as Shelf>⟧.counts self.new
+            ≡ ⟦<FileShelf<'r, R> as Shelf>⟧.counts self.old }
+    {
+        if self.opened.have_names(names) {
+            return self.opened.share().map_err(|_| OpenFault::Memory);
+        }
+        let opened = OpenedRelations::open(self.rt, names)?;
+        let relations = opened.share().map_err(|_| OpenFault::Memory)?;
+        self.opened = opened;
+        Ok(relations)
     }
 }
 
@@ -121,7 +133,7 @@ impl<R: Files<File = File> + AllocGlobal> Shelf for FileShelf<'_, R> {
     /// (`EMFILE`, `ENFILE`). A later segment is not there either where its name would be longer
     /// than the system's names are (`ENAMETOOLONG`).
     fn open(&mut self, names: &[String]) -> Result<FileDisk, OpenFault> {
-        match open_relations(self.rt, names) {
+        match self.open_relations(names) {
             Ok(relations) => Ok(FileDisk {
                 relations,
                 faults: 0,
@@ -136,7 +148,9 @@ impl<R: Files<File = File> + AllocGlobal> Shelf for FileShelf<'_, R> {
         }
     }
 
+    /// The next disk is over files that are opened anew.
     fn take_back(&mut self, disk: FileDisk) {
+        self.opened = OpenedRelations::none(self.rt.alloc());
         self.reads = self.reads.saturating_add(disk.reads);
         self.faults = self.faults.saturating_add(u64::from(disk.faults > 0));
         self.length_faults = self

@@ -1,21 +1,24 @@
 //! Relations of real files.
-ghost use Rattle.std.specs.Prelude.{◌≤◌, ◌<◌, length, IfOk};
+ghost use Rattle.std.specs.Prelude.{◌≡◌, ◌≤◌, ◌<◌, length, map, IfOk};
+ghost use Rattle.std.specs.Arc.{arc_value};
 
 use crate::segments::{MOST_SEGMENTS, SEGMENT_SIZE, segment_name};
 use crate::source::is_full;
 use crate::source_relation::{count_relation, read_relation};
 use crate::{DeviceFault, OpenFault};
 use page_check::Page;
+use std::alloc::{AllocError, Global};
 use std::fs::{self, File, FileType};
 use std::io;
 use std::os::unix::fs::FileTypeExt;
 use std::rt::Files;
+use std::sync::Arc;
 
 /// The segments of a relation, which are open for reading. Each but the last one had exactly
-/// [`SEGMENT_SIZE`] blocks when it was opened.
+/// [`SEGMENT_SIZE`] blocks when it was opened. Disks share their files: a read names its place.
 #[derive(Drop)]
 pub(crate) struct FileRelation {
-    segments: Vec<File>,
+    segments: Vec<Arc<File, Global>>,
     ghost some: { 0 < length segments.items },
 }
 
@@ -37,6 +40,18 @@ impl FileRelation {
                 Some(next) => segments.push(next).map_err(|_| OpenFault::Memory)?,
                 None => break,
             }
+        }
+        Ok(FileRelation { segments })
+    }
+
+    /// The same relation once more, with the same open files.
+    pub(crate) fn share(&self) -> Result<FileRelation, AllocError>
+        ensures { IfOk result (λ shared.
+            map arc_value shared.segments.items ≡ map arc_value self.now.segments.items) }
+    {
+        let mut segments = Vec::new(*self.segments.allocator());
+        for segment in &self.segments {
+            segments.push(Arc::try_clone(segment)?)?;
         }
         Ok(FileRelation { segments })
     }
@@ -88,12 +103,18 @@ fn some_if_found<T>(answer: io::Result<T>) -> Result<Option<T>, OpenFault> {
 }
 
 // Opens a segment of this relation, where it is there.
-fn open_segment<R>(rt: &R, name: &str, number: u32) -> Result<Option<File>, OpenFault>
+fn open_segment<R>(rt: &R, name: &str, number: u32) -> Result<Option<Arc<File, Global>>, OpenFault>
 where
     R: Files<File = File> + AllocGlobal,
 {
     let name = segment_name(rt.alloc(), name, number).map_err(|_| OpenFault::Memory)?;
-    some_if_found(open_file(rt, name.as_str()))
+    match some_if_found(open_file(rt, name.as_str()))? {
+        Some(file) => match Arc::new(rt.alloc(), file) {
+            Ok(shared) => Ok(Some(shared)),
+            Err(_) => Err(OpenFault::Memory),
+        },
+        None => Ok(None),
+    }
 }
 
 // Whether something stands under the name of a segment of this relation.
@@ -109,10 +130,10 @@ where
 // file is not measured.
 fn open_next_segment<R>(
     rt: &R,
-    last: &mut File,
+    last: &mut Arc<File, Global>,
     name: &str,
     number: u32,
-) -> Result<Option<File>, OpenFault>
+) -> Result<Option<Arc<File, Global>>, OpenFault>
 where
     R: Files<File = File> + AllocGlobal,
 {

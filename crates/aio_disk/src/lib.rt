@@ -20,6 +20,7 @@ mod fault;
 mod file;
 mod file_names;
 mod file_relation;
+mod opened_relations;
 mod read_log;
 mod segments;
 mod shared_bytes;

@@ -9,9 +9,11 @@ ghost use Rattle.aio_disk.specs.Source.{AnswersSize, AnswersBytes, GivesBlocks};
 
 use crate::DeviceFault;
 use page_check::{PAGE_SIZE, Page, split_bytes};
+use std::alloc::Global;
 use std::fs::File;
 use std::io::{self, ErrorKind, Seek, SeekFrom};
 use std::os::unix::fs::FileExt;
+use std::sync::Arc;
 
 /// The bytes of one relation. It may tell them, and which of its calls failed.
 pub trait ByteSource {
@@ -29,7 +31,7 @@ pub trait ByteSource {
         ensures bytes { AnswersBytes (told self.old) (told self.new) offset bytes.new result };
 }
 
-impl ByteSource for File {
+impl ByteSource for Arc<File, Global> {
     ghost told = { λ file. None };
 
     fn size(&mut self) -> Result<u64, DeviceFault> {
@@ -37,7 +39,7 @@ impl ByteSource for File {
     }
 
     fn read_at(&mut self, bytes: &mut [u8], offset: u64) -> io::Result<usize> {
-        FileExt::read_at(self, bytes, offset)
+        FileExt::read_at(&**self, bytes, offset)
     }
 }
 
