@@ -1,5 +1,5 @@
 -- Plans of reads as contracts see them.
-use Rattle.std.specs.Prelude.{ℕ, ◌<◌, ◌≤◌, Bool, min, if◌then◌else◌, Option, None}
+use Rattle.std.specs.Prelude.{ℕ, ◌<◌, ◌≤◌, Bool, min, max, if◌then◌else◌, Option, None}
 use Rattle.read_plan.specs.declared.runs.Run.{Run}
 
 -- the parts of a plan that calls speak of (after ReadStream of read_stream.c)
@@ -33,6 +33,10 @@ new_plan combine max_ios limit full segment = record {
   ios_in_progress = 0;
   pending = None;
 }
+
+-- the plan with a distance of at least this, as far as its limit allows
+abbrev pub raised_plan : PlanView → ℕ → PlanView
+raised_plan plan to = record plan { distance = max plan.distance (min plan.limit to) }
 
 -- fewer blocks ahead than the distance, and fewer I/Os in progress than there may be
 abbrev pub MayLookAhead : PlanView → Type 0

@@ -3,7 +3,7 @@ ghost use Rattle.std.specs.Prelude.{◌≡◌, ◌+◌, ◌-◌, ◌*◌, ◌^�
 ghost use Rattle.std.specs.Prelude.{[], ◌∷◌, None, IsTrue, IfSome};
 ghost use Rattle.std.specs.Option.{option_to_list};
 ghost use Rattle.read_plan.specs.OfferAnswer.{Offers, RunsCoverBlocks, IfFlush, flushed_runs};
-ghost use Rattle.read_plan.specs.Plans.{IsSoundPlan, MayLookAhead, new_plan};
+ghost use Rattle.read_plan.specs.Plans.{IsSoundPlan, MayLookAhead, new_plan, raised_plan};
 ghost use Rattle.read_plan.specs.Runs.{AreRuns, IsRun, IsWithin};
 
 use crate::runs::{Offer, Run};
@@ -58,6 +58,14 @@ impl Plan {
             ios_in_progress: 0,
             pending: None,
         }
+    }
+
+    /// Before its first block: the distance is to be at least `to` blocks, as far as the limit
+    /// allows. It does not fall.
+    pub fn raise_distance(&mut self, to: u32)
+        ensures { self.new ≡ raised_plan self.old to }
+    {
+        self.distance = self.distance.max(to.min(self.limit));
     }
 
     /// Adds the block to the pending run, or begins another one with it.
