@@ -169,12 +169,12 @@ module _ (asked : ResolvedCommand) (given : ℕ → List ℕ) (told : Option Tol
         few_read : reads < last_count → reads ≤ length (resolved_request_list asked told given)
         few_read below = omega (arith, below_last below, counted.few)
 
-        pub ended_ran : (disk_told : Option Told) (relations : ℕ) → told ≡ disk_told
+        pub ended_ran : (disk_told : Option Told) (segment relations : ℕ) → told ≡ disk_told
             → relations ≡ length (command_relations asked.command.now)
-            → HasAllLengths disk_told asked.segment relations asked.lengths.now
-            → IsListedRun disk_told relations asked.command.now
+            → HasAllLengths disk_told segment relations asked.lengths.now
+            → IsListedRun disk_told segment relations asked.command.now
             (observed_state written before.reads) (observed_state now_written now.reads) o sums w
-        ended_ran disk_told relations same all has =
+        ended_ran disk_told segment relations same all has =
             ⊎_elim
             (λ is. (let none = scanned.cannot_open is in
             let unread : now.reads ≡ before.reads = omega (arith, reads_raised, none.3) in
@@ -182,7 +182,7 @@ module _ (asked : ResolvedCommand) (given : ℕ → List ℕ) (told : Option Tol
             (observed_state written before.reads) sums)))
             (λ not. ran_on_shelf disk_told disk_told relations relations asked.command.now written
             now_written reads before.reads now.reads o sums w refl refl reads_raised
-            (ran_listed disk_told told asked.segment relations asked.command.now asked.lengths.now
+            (ran_listed disk_told told segment relations asked.command.now asked.lengths.now
             given written now_written reads o sums w same all has (scanned.lists not) few_read))
             (is_refusal o)
 

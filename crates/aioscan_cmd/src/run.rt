@@ -31,7 +31,7 @@ fn run_command<S: Shelf, O: Sink, E: Sink, R: Threads + Wait + Sync>(
     out: &mut O,
     err: &mut E,
 ) -> RunEnd
-    ensures ran { AppendsWarnings (IsCommandRun (S.told shelf.old) (Some command.now)
+    ensures ran { AppendsWarnings (IsCommandRun (S.told shelf.old) (S.segment shelf.old) (Some command.now)
         (observed_state (O.written out.old) (S.counts shelf.old).reads)
         (observed_state (O.written out.new) (S.counts shelf.new).reads) result.outcome)
         (error_stream Line.Whole (E.written err.old) (E.faults err.old))
@@ -73,7 +73,7 @@ fn run<S: Shelf, O: Sink, E: Sink, R: Threads + Wait + Sync>(
         → (result.end.outcome ≡ Outcome.Usage) ⊎ (result.end.outcome ≡ Outcome.NoMemory) }
     ensures unread { command_of (map string_bytes words.now) ≡ None
         → (O.written out.new ≡ O.written out.old) × (S.counts shelf.new ≡ S.counts shelf.old) }
-    ensures ran { AppendsWarnings (IsCommandRun (S.told shelf.old) (command_of (map string_bytes
+    ensures ran { AppendsWarnings (IsCommandRun (S.told shelf.old) (S.segment shelf.old) (command_of (map string_bytes
         words.now))
         (observed_state (O.written out.old) (S.counts shelf.old).reads)
         (observed_state (O.written out.new) (S.counts shelf.new).reads) result.end.outcome)
@@ -152,7 +152,7 @@ pub fn aioscan<S: Shelf, O: Sink, E: Sink, R: Threads + Wait + Sync>(
         → (O.written out.new ≡ O.written out.old) × (S.counts shelf.new ≡ S.counts shelf.old) }
 
     // What became of the run: over any shelf, and as synchronous reads give it, where it tells.
-    ensures ran { (warnings : List ℕ) × IsCommandRun (S.told shelf.old)
+    ensures ran { (warnings : List ℕ) × IsCommandRun (S.told shelf.old) (S.segment shelf.old)
         (command_of (map string_bytes words.now))
         (observed_state (O.written out.old) (S.counts shelf.old).reads)
         (observed_state (O.written out.new) (S.counts shelf.new).reads) result.outcome warnings }
@@ -160,7 +160,8 @@ pub fn aioscan<S: Shelf, O: Sink, E: Sink, R: Threads + Wait + Sync>(
         (command_of (map string_bytes words.now)) (λ run.
         RunWrites run (O.written out.old) (O.written out.new) result.outcome) }
     ensures output_same { is_refused result.outcome ≡ true → O.written out.new ≡ O.written out.old }
-    ensures error_output { IsErrorOutput (S.told shelf.old) (command_of (map string_bytes words.now))
+    ensures error_output { IsErrorOutput (S.told shelf.old) (S.segment shelf.old)
+        (command_of (map string_bytes words.now))
         (observed_state (O.written out.old) (S.counts shelf.old).reads)
         (observed_state (O.written out.new) (S.counts shelf.new).reads)
         result.outcome (report_numbers result)

@@ -133,7 +133,7 @@ pub(crate) fn list_files<S: Shelf, O: Sink, E: Sink, R: Threads + Wait + Sync>(
 ) -> RunEnd
     ensures ran { AppendsWarnings (IsListedRun (shelf_told (S.told shelf.old) (command_relations
         command.now))
-        (length (command_relations command.now)) command.now
+        (S.segment shelf.old) (length (command_relations command.now)) command.now
         (observed_state (O.written out.old) (S.counts shelf.old).reads)
         (observed_state (O.written out.new) (S.counts shelf.new).reads) result.outcome
         result.sums)

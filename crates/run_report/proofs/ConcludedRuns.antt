@@ -257,8 +257,8 @@ module _ (t : Told) (c : Command) (b m a : Option (List ℕ)) where
   kept_warned _ w warned = warned
 
 -- what a run has written, and what it has warned of
-module _ (t : Told) (n : ℕ) (c : Command) (b a : ObservedState) (o : Outcome) (w : List ℕ)
-    (ran : IsFileRun (Some t) n c b a o w) where
+module _ (t : Told) {z : ℕ} (n : ℕ) (c : Command) (b a : ObservedState) (o : Outcome) (w : List ℕ)
+    (ran : IsFileRun (Some t) z n c b a o w) where
   abbrev m : Option (List ℕ)
   m = ran.between
 
@@ -269,10 +269,10 @@ module _ (t : Told) (n : ℕ) (c : Command) (b a : ObservedState) (o : Outcome) 
   Concludes x l = RunWrites (file_run t c) b.written l x × IsWarned (file_run t c) b.written l x w
 
   by_ended : (e : Outcome) → (e ≡ Done) ⊎ (e ≢ Done)
-      → IsListedRun (Some t) n c b s e ran.sums w → IsConclusion c ran.sums e m a.written o
+      → IsListedRun (Some t) z n c b s e ran.sums w → IsConclusion c ran.sums e m a.written o
       → Concludes o a.written
   by_ended e (inl all) listed is =
-      let L : Outcome → Type 0 = λ x. IsListedRun (Some t) n c b s x ran.sums w in
+      let L : Outcome → Type 0 = λ x. IsListedRun (Some t) z n c b s x ran.sums w in
       let K : Outcome → Type 0 = λ x. IsConclusion c ran.sums x m a.written o in
       let whole = subst L all listed in
       let closed = subst K all is in
@@ -314,8 +314,8 @@ refused_first c sums b a Done o is refused =
     ])
 refused_first c sums b a _ o is refused = is
 
-pub file_untouched : (told : Option Told) (n : ℕ) (c : Command) (b a : ObservedState) (o : Outcome)
-    (w : List ℕ) → IsFileRun told n c b a o w → is_refused o ≡ true → a.written ≡ b.written
+pub file_untouched : (told : Option Told) {z : ℕ} (n : ℕ) (c : Command) (b a : ObservedState) (o : Outcome)
+    (w : List ℕ) → IsFileRun told z n c b a o w → is_refused o ≡ true → a.written ≡ b.written
 file_untouched told n c b a o w ran refused =
     let first = refused_first c ran.sums ran.between a.written ran.ended o ran.concluded refused in
     let same = ran.listed.output_same (ap is_refused (sym first.0) ∙ refused) in

@@ -88,8 +88,8 @@ module _ (t : Told) (n : ℕ) (c : Command) (b a : ObservedState) where
   blocks_are : blocks ≡ request_list (relation_block_count t) map_page c
   blocks_are = request_blocks (relation_block_count t) map_page c
 
-  by_parts : (o : Outcome) (sums : PageSums) (w : List ℕ)
-      → IsListedRun (Some t) n c b a o sums w
+  by_parts : {z : ℕ} (o : Outcome) (sums : PageSums) (w : List ℕ)
+      → IsListedRun (Some t) z n c b a o sums w
       → RunWrites run b.written a.written o
   by_parts Done sums w ran =
       let lists = (ran.is_output refl).lists in
@@ -133,15 +133,15 @@ module _ (t : Told) (n : ℕ) (c : Command) (b a : ObservedState) where
       absurd (let ends = (ran.is_output refl).lists.ends_listing in cc)
   by_parts _ sums w ran = untouched_same b a (ran.output_same refl).0
 
-  pub writes : (o : Outcome) (sums : PageSums) (w : List ℕ)
-      → IsListedRun (Some t) n c b a o sums w → RunWrites (listed_run t c) b.written a.written o
+  pub writes : {z : ℕ} (o : Outcome) (sums : PageSums) (w : List ℕ)
+      → IsListedRun (Some t) z n c b a o sums w → RunWrites (listed_run t c) b.written a.written o
   writes o sums w ran =
       let P : List Request → Type 0 = λ l. RunWrites (run_over l) b.written a.written o in
       subst P blocks_are (by_parts o sums w ran)
 
   -- and what it has warned of
-  warned_by_parts : (o : Outcome) (sums : PageSums) (w : List ℕ)
-      → IsListedRun (Some t) n c b a o sums w
+  warned_by_parts : {z : ℕ} (o : Outcome) (sums : PageSums) (w : List ℕ)
+      → IsListedRun (Some t) z n c b a o sums w
       → IsWarned run b.written a.written o w
   unfolding cut_at
   warned_by_parts Done sums w ran =
@@ -170,14 +170,14 @@ module _ (t : Told) (n : ℕ) (c : Command) (b a : ObservedState) where
       absurd (let ends = (ran.is_output refl).lists.ends_listing in cc)
   warned_by_parts _ sums w ran = (ran.output_same refl).1
 
-  pub is_warned : (o : Outcome) (sums : PageSums) (w : List ℕ)
-      → IsListedRun (Some t) n c b a o sums w → IsWarned (listed_run t c) b.written a.written o w
+  pub is_warned : {z : ℕ} (o : Outcome) (sums : PageSums) (w : List ℕ)
+      → IsListedRun (Some t) z n c b a o sums w → IsWarned (listed_run t c) b.written a.written o w
   is_warned o sums w ran =
       let P : List Request → Type 0 = λ l. IsWarned (run_over l) b.written a.written o w in
       subst P blocks_are (warned_by_parts o sums w ran)
 
   -- where all was listed without a map, these are the sums of the pages
-  pub has_sums : (sums : PageSums) (w : List ℕ) → IsListedRun (Some t) n c b a Done sums w
+  pub has_sums : {z : ℕ} (sums : PageSums) (w : List ℕ) → IsListedRun (Some t) z n c b a Done sums w
       → c.map ≡ None
       → sums ≡ saturated_sums (sums_of (listed_run t c).format (listed_run t c).pages)
   has_sums sums w ran none =

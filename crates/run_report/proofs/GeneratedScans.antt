@@ -74,11 +74,11 @@ module _ (n : ℕ) (c : Command) (is : AsksForGeneratedPages n c) where
       names) generated_relations
 
   -- the run over them listed all, or found no memory
-  module _ (told : Option Told) (relations : ℕ) (b a : ObservedState) (o : Outcome)
+  module _ (told : Option Told) {segment : ℕ} (relations : ℕ) (b a : ObservedState) (o : Outcome)
       (sums : PageSums) (w : List ℕ)
       (told_is : told ≡ Some (generated_told n)) (one : relations ≡ 1)
-      (ran : IsListedRun told relations c b a o sums w) where
-    ran_here : IsListedRun (Some (generated_told n)) (length (command_relations c)) c b a o sums w
+      (ran : IsListedRun told segment relations c b a o sums w) where
+    ran_here : IsListedRun (Some (generated_told n)) segment (length (command_relations c)) c b a o sums w
     ran_here = rw (one_relation, ← one, ← told_is) ran
 
     pub all_listed : (before now : ShelfCounts) (wb wn : ℕ) → HasCauses before now wb wn o
@@ -125,7 +125,7 @@ module _ (n : ℕ) (c : Command) (is : AsksForGeneratedPages n c) where
         let found = found_at rules (generated_told n) in
         let format = (listed_run (generated_told n) c).format in
         let L : Outcome → Type 0 =
-        λ x. IsListedRun (Some (generated_told n)) (length (command_relations c)) c b a x sums w in
+        λ x. IsListedRun (Some (generated_told n)) segment (length (command_relations c)) c b a x sums w in
         let S : Bool → Type 0 = λ x. summary_line sums
         ≡ summary_line (sums_of (page_format Items)
         (readable_pages (found_at (record { checksums = x; damaged = c.settings.damaged })

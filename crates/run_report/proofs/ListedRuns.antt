@@ -70,8 +70,8 @@ pub ran_listed : (told now : Option Told) (segment relations : ℕ) (command : C
     (map_pages_known now (page_rules command.settings) given) command) output after o sums w
     → (read < last_count → read ≤ length (request_list (slice_index lengths)
     (map_pages_known now (page_rules command.settings) given) command))
-    → IsListedRun told relations command (observed_state output 0) (observed_state after read) o
-    sums w
+    → IsListedRun told segment relations command (observed_state output 0)
+    (observed_state after read) o sums w
 ran_listed told now segment relations command lengths given output after read o sums w same all has
     listed few =
     let map_page = map_pages_known told (page_rules command.settings) given in
@@ -89,7 +89,6 @@ ran_listed told now segment relations command lengths given output after read o 
     let fewer = subst F same few in record {
       answered = slice_index lengths;
       map_page = given;
-      segment = segment;
       in_order = fits_where_listed _ _ relations o begun
           (lengths_fit told segment relations lengths has);
       is_output = λ is. subst K parts (subst L same listed);
@@ -111,18 +110,17 @@ shelf_untouched output after read reads now back same =
     rw (kept, output_same) refl
 
 -- a disk that was not read before is taken back
-pub ran_on_shelf : (told now : Option Told) (relations count : ℕ) (command : Command)
+pub ran_on_shelf : (told now : Option Told) {segment : ℕ} (relations count : ℕ) (command : Command)
     (output after : Option (List ℕ)) (read reads total : ℕ) (o : Outcome) (sums : PageSums)
     (w : List ℕ) → now ≡ told → count ≡ relations → total ≡ count_plus read reads
-    → IsListedRun now count command (observed_state output 0) (observed_state after read) o sums w
-    → IsListedRun told relations command (observed_state output reads)
+    → IsListedRun now segment count command (observed_state output 0) (observed_state after read) o sums w
+    → IsListedRun told segment relations command (observed_state output reads)
     (observed_state after total) o sums w
 ran_on_shelf told now relations count command output after read reads total o sums w same all back
     run =
     rw (← same, ← all) (record {
       answered = run.answered;
       map_page = run.map_page;
-      segment = run.segment;
       in_order = run.in_order;
       is_output = run.is_output;
       few_reads = shelf_few read reads total _ back run.few_reads;

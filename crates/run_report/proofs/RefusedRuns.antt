@@ -46,12 +46,11 @@ ran_nothing : (told : Option Told) (relations : ℕ) (command : Command) (s : Ob
     (answered : ℕ → ℕ) (segment : ℕ) (o : Outcome) (sums : PageSums)
     → FitsInOrder (limit_known told segment) (lengths_known told answered) relations o
     → (is_refused o ≡ false → (o ≡ NoMemory) × (sums ≡ no_sums))
-    → IsListedRun told relations command s s o sums []
+    → IsListedRun told segment relations command s s o sums []
 unfolding lists_nothing
 ran_nothing told relations command s answered segment o sums fits memory = record {
   answered = answered;
   map_page = λ _. [];
-  segment = segment;
   in_order = fits;
   is_output = λ begun.
       (let none = memory begun in rw (none.0, none.1) (record {
@@ -62,21 +61,21 @@ ran_nothing told relations command s answered segment o sums fits memory = recor
   output_same = λ _. (refl, refl);
 }
 
-pub ran_out_of_memory : (told : Option Told) (relations : ℕ) (command : Command) (s : ObservedState)
-    → IsListedRun told relations command s s NoMemory no_sums []
+pub ran_out_of_memory : (told : Option Told) {segment : ℕ} (relations : ℕ) (command : Command) (s : ObservedState)
+    → IsListedRun told segment relations command s s NoMemory no_sums []
 ran_out_of_memory told relations command s =
-    ran_nothing told relations command s (λ _. 0) 0 NoMemory no_sums tt (λ _. (refl, refl))
+    ran_nothing told relations command s (λ _. 0) _ NoMemory no_sums tt (λ _. (refl, refl))
 
 -- no disk was opened
-pub ran_without_disk : (told : Option Told) (relations : ℕ) (command : Command) (s : ObservedState)
-    (sums : PageSums) → IsListedRun told relations command s s CannotOpen sums []
+pub ran_without_disk : (told : Option Told) {segment : ℕ} (relations : ℕ) (command : Command) (s : ObservedState)
+    (sums : PageSums) → IsListedRun told segment relations command s s CannotOpen sums []
 ran_without_disk told relations command s sums =
-    ran_nothing told relations command s (λ _. 0) 0 CannotOpen sums tt (λ begun. absurd (cc))
+    ran_nothing told relations command s (λ _. 0) _ CannotOpen sums tt (λ begun. absurd (cc))
 
 -- the lengths could not be had
 pub ran_refused : (told : Option Told) (relations : ℕ) (command : Command) (s : ObservedState)
     (segment : ℕ) (o : Outcome) → LengthsFailed told segment relations o
-    → IsListedRun told relations command s s o no_sums []
+    → IsListedRun told segment relations command s s o no_sums []
 ran_refused told relations command s segment (NoLength r) has =
     let limit = limit_known told segment in
     ran_nothing told relations command s (long_at limit r) segment (NoLength r) no_sums
@@ -90,9 +89,9 @@ ran_refused told relations command s segment NoMemory has =
     ran_out_of_memory told relations command s
 ran_refused told relations command s segment _ has = absurd has
 
-unread_by : (files : Option Files) (c : Command) (generated : Option ℕ) (s : ObservedState)
-    → IsSourceRun files c generated s s NoMemory []
-unread_by files c None s = record {
+unread_by : (files : Option Files) (segment : ℕ) (c : Command) (generated : Option ℕ) (s : ObservedState)
+    → IsSourceRun files segment c generated s s NoMemory []
+unread_by files segment c None s = record {
   between = s.written;
   sums = no_sums;
   ended = NoMemory;
@@ -100,10 +99,10 @@ unread_by files c None s = record {
       (length (command_relations c)) c s;
   concluded = (refl, refl);
 }
-unread_by files c (Some n) s = ran_generated_without_memory c.settings.damaged n s [] refl
+unread_by files segment c (Some n) s = ran_generated_without_memory c.settings.damaged n s [] refl
 
 -- words that may be a command could not be read for want of memory
-pub ran_unread : (files : Option Files) (command : Option Command) (s : ObservedState)
-    → IsCommandRun files command s s NoMemory []
-ran_unread files None s = refl
-ran_unread files (Some c) s = unread_by files c c.generated s
+pub ran_unread : (files : Option Files) (segment : ℕ) (command : Option Command) (s : ObservedState)
+    → IsCommandRun files segment command s s NoMemory []
+ran_unread files segment None s = refl
+ran_unread files segment (Some c) s = unread_by files segment c c.generated s

@@ -19,28 +19,28 @@ use Rattle.run_report.proofs.ConcludedRuns.{file_writes, file_warned, file_fits,
 use Rattle.run_report.proofs.GeneratedRuns.{generated_not_refused}
 
 -- over a shelf that tells, what holds of each run holds of this one
-told_by : (told : Option Told) (c : Command) (b a : ObservedState) (o : Outcome) (w : List ℕ)
+told_by : (told : Option Told) {segment : ℕ} (c : Command) (b a : ObservedState) (o : Outcome) (w : List ℕ)
     (P : SynchronousRun → Type 0)
-    → ((t : Told) → IsFileRun (Some t) (length (command_relations c)) c b a o w → P (file_run t c))
-    → IsFileRun told (length (command_relations c)) c b a o w → IfSome told (λ t. P (file_run t c))
+    → ((t : Told) → IsFileRun (Some t) segment (length (command_relations c)) c b a o w → P (file_run t c))
+    → IsFileRun told segment (length (command_relations c)) c b a o w → IfSome told (λ t. P (file_run t c))
 told_by None c b a o w P each ran = tt
 told_by (Some t) c b a o w P each ran = each t ran
 
-on_source : (files : Option Files) (c : Command) (generated : Option ℕ)
+on_source : (files : Option Files) {segment : ℕ} (c : Command) (generated : Option ℕ)
     (b a : ObservedState) (o : Outcome) (w : List ℕ) (P : SynchronousRun → Type 0)
-    → ((t : Told) → IsFileRun (Some t) (length (command_relations c)) c b a o w → P (file_run t c))
+    → ((t : Told) → IsFileRun (Some t) segment (length (command_relations c)) c b a o w → P (file_run t c))
     → ((z : DamagedPages) (n : ℕ) → IsGeneratedRun z n b a o w → P (generated_run z n))
-    → IsSourceRun files c generated b a o w → HoldsForSource files c generated P
+    → IsSourceRun files segment c generated b a o w → HoldsForSource files c generated P
 on_source files c None b a o w P each each_made ran =
     told_by (shelf_told files (command_relations c)) c b a o w P each ran
 on_source files c (Some n) b a o w P each each_made ran = each_made c.settings.damaged n ran
 
-pub on_told : (files : Option Files) (command : Option Command) (b a : ObservedState) (o : Outcome)
+pub on_told : (files : Option Files) {segment : ℕ} (command : Option Command) (b a : ObservedState) (o : Outcome)
     (w : List ℕ) (P : SynchronousRun → Type 0)
     → ((t : Told) (c : Command) → command ≡ Some c
-    → IsFileRun (Some t) (length (command_relations c)) c b a o w → P (file_run t c))
+    → IsFileRun (Some t) segment (length (command_relations c)) c b a o w → P (file_run t c))
     → ((z : DamagedPages) (n : ℕ) → command ≢ None → IsGeneratedRun z n b a o w → P (generated_run z n))
-    → IsCommandRun files command b a o w → HoldsForRun files command P
+    → IsCommandRun files segment command b a o w → HoldsForRun files command P
 on_told files None b a o w P each each_made ran = tt
 on_told files (Some c) b a o w P each each_made ran =
     on_source files c c.generated b a o w P (λ t r. each t c refl r)
@@ -51,8 +51,8 @@ not_usage : (command : Option Command) (c : Command) (o : Outcome)
     → (o ≡ Usage → command ≡ None) → command ≡ Some c → o ≢ Usage
 not_usage command c o usage some = λ is. (let none = usage is in cc)
 
-module _ (files : Option Files) (command : Option Command) (b a : ObservedState) (o : Outcome)
-    (w : List ℕ) (ran : IsCommandRun files command b a o w) where
+module _ (files : Option Files) (segment : ℕ) (command : Option Command) (b a : ObservedState) (o : Outcome)
+    (w : List ℕ) (ran : IsCommandRun files segment command b a o w) where
   pub told_writes : HoldsForRun files command (λ run. RunWrites run b.written a.written o)
   told_writes =
       on_told files command b a o w (λ run. RunWrites run b.written a.written o)
@@ -86,17 +86,17 @@ module _ (files : Option Files) (command : Option Command) (b a : ObservedState)
       complete (generated_run z n) before now wb wn b.written a.written o
       (λ is. some (usage is)) causes r.in_order r.writes) ran
 
-untouched_by : (files : Option Files) (c : Command) (generated : Option ℕ)
+untouched_by : (files : Option Files) (segment : ℕ) (c : Command) (generated : Option ℕ)
     (b a : ObservedState) (o : Outcome)
-    (w : List ℕ) → IsSourceRun files c generated b a o w
+    (w : List ℕ) → IsSourceRun files segment c generated b a o w
     → is_refused o ≡ true → a.written ≡ b.written
-untouched_by files c None b a o w ran refused = file_untouched _ (length (command_relations c)) c b a o w ran refused
-untouched_by files c (Some n) b a o w ran refused =
+untouched_by files segment c None b a o w ran refused = file_untouched _ (length (command_relations c)) c b a o w ran refused
+untouched_by files segment c (Some n) b a o w ran refused =
     absurd (let begun = generated_not_refused o ran.ends in cc)
 
-pub any_untouched : (files : Option Files) (command : Option Command)
+pub any_untouched : (files : Option Files) (segment : ℕ) (command : Option Command)
     (b a : ObservedState) (o : Outcome) (w : List ℕ) → (command ≡ None → a.written ≡ b.written)
-    → IsCommandRun files command b a o w → is_refused o ≡ true → a.written ≡ b.written
-any_untouched files None b a o w unread ran refused = unread refl
-any_untouched files (Some c) b a o w unread ran refused =
-    untouched_by files c c.generated b a o w ran refused
+    → IsCommandRun files segment command b a o w → is_refused o ≡ true → a.written ≡ b.written
+any_untouched files segment None b a o w unread ran refused = unread refl
+any_untouched files segment (Some c) b a o w unread ran refused =
+    untouched_by files segment c c.generated b a o w ran refused

@@ -72,14 +72,14 @@ pub record AppendsWarnings (Are : List ℕ → Type 0) (before now : ErrorStream
 
 -- what is on the error stream at the end: the warnings of the pages that were listed, and then the
 -- lines of the end
-pub record IsErrorOutput (files : Option Files) (command : Option Command) (before now
+pub record IsErrorOutput (files : Option Files) (segment : ℕ) (command : Option Command) (before now
     : ObservedState)
     (outcome : Outcome) (numbers : Numbers) (line : Line) (err_before err_after : Option (List ℕ))
     (faults_before faults_now : ℕ) : Type 0 where
   pub warnings : List ℕ
   pub told : IsToldOnErr (warnings ++ end_lines command outcome numbers) line err_before err_after
       faults_before faults_now
-  pub ran : IsCommandRun files command before now outcome warnings
+  pub ran : IsCommandRun files segment command before now outcome warnings
   pub warnings_are : HoldsForRun files command
       (λ run. IsWarned run before.written now.written outcome warnings)
 

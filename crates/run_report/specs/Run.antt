@@ -251,13 +251,13 @@ abbrev pub limit_known : Option Told → ℕ → ℕ
 limit_known (Some told) segment = length_limit told.segment
 limit_known None segment = length_limit segment
 
--- what is known of a listing, of its sums and of its warnings, whether or not its contents are told
-pub record IsListedRun (told : Option Told) (relations : ℕ) (command : Command)
+-- what is known of a listing over relations of this segment size, of its sums and of its warnings,
+-- whether or not its contents are told
+pub record IsListedRun (told : Option Told) (segment relations : ℕ) (command : Command)
     (before now : ObservedState) (outcome : Outcome) (sums : PageSums) (warnings : List ℕ)
     : Type 0 where
   pub answered : ℕ → ℕ
   pub map_page : ℕ → List ℕ
-  pub segment : ℕ
   pub in_order : FitsInOrder (limit_known told segment) (lengths_known told answered) relations
       outcome
   pub is_output : is_refused outcome ≡ false
@@ -286,13 +286,13 @@ IsConclusion command sums listed before now outcome = (outcome ≡ listed) × (n
 
 -- what is known of a run, and of its warnings: pages were listed, and what stands behind them is by
 -- their sums
-pub record IsFileRun (told : Option Told) (relations : ℕ) (command : Command)
+pub record IsFileRun (told : Option Told) (segment relations : ℕ) (command : Command)
     (before now : ObservedState) (outcome : Outcome) (warnings : List ℕ) : Type 0 where
   pub between : Option (List ℕ)
   pub sums : PageSums
   pub ended : Outcome
-  pub listed : IsListedRun told relations command before (observed_state between now.reads) ended
-      sums warnings
+  pub listed : IsListedRun told segment relations command before
+      (observed_state between now.reads) ended sums warnings
   pub concluded : IsConclusion command sums ended between now.written outcome
 
 -- how a run over generated pages may end
@@ -312,17 +312,17 @@ pub record IsGeneratedRun (damaged : DamagedPages) (n : ℕ) (before now : Obser
   pub no_warnings : warnings ≡ []
   pub warnings_are : IsWarned (generated_run damaged n) before.written now.written outcome warnings
 
-abbrev pub IsSourceRun : Option Files → Command → Option ℕ → ObservedState → ObservedState
+abbrev pub IsSourceRun : Option Files → ℕ → Command → Option ℕ → ObservedState → ObservedState
     → Outcome → List ℕ → Type 0
-IsSourceRun files c None before now outcome warnings =
-    IsFileRun (shelf_told files (command_relations c)) (length (command_relations c)) c
+IsSourceRun files segment c None before now outcome warnings =
+    IsFileRun (shelf_told files (command_relations c)) segment (length (command_relations c)) c
     before now outcome warnings
-IsSourceRun files c (Some n) before now outcome warnings =
+IsSourceRun files segment c (Some n) before now outcome warnings =
     IsGeneratedRun c.settings.damaged n before now outcome warnings
 
 -- words that are no command have nothing to warn of
-abbrev pub IsCommandRun : Option Files → Option Command → ObservedState → ObservedState
+abbrev pub IsCommandRun : Option Files → ℕ → Option Command → ObservedState → ObservedState
     → Outcome → List ℕ → Type 0
-IsCommandRun files None before now outcome warnings = warnings ≡ []
-IsCommandRun files (Some c) before now outcome warnings =
-    IsSourceRun files c c.generated before now outcome warnings
+IsCommandRun files segment None before now outcome warnings = warnings ≡ []
+IsCommandRun files segment (Some c) before now outcome warnings =
+    IsSourceRun files segment c c.generated before now outcome warnings

@@ -14,23 +14,23 @@ returns-clause-ran g c =
 
 pub returns-clause-writes : goal.returns-clause-writes
 returns-clause-writes g c =
-    told_writes (g.S.Shelf.told c.args.shelf.now) (command_of (map string_bytes c.args.words.now))
+    told_writes (g.S.Shelf.told c.args.shelf.now) _ (command_of (map string_bytes c.args.words.now))
     _ _ c.run-ended.result.end.outcome _ c.run-ended.ensures.ran.warnings_hold
 
 pub returns-clause-exact : goal.returns-clause-exact
 returns-clause-exact g c =
-    told_exact (g.S.Shelf.told c.args.shelf.now) (command_of (map string_bytes c.args.words.now))
+    told_exact (g.S.Shelf.told c.args.shelf.now) _ (command_of (map string_bytes c.args.words.now))
     _ _ c.run-ended.result.end.outcome _ c.run-ended.ensures.ran.warnings_hold
 
 pub returns-clause-complete : goal.returns-clause-complete
 returns-clause-complete g c =
-    told_complete (g.S.Shelf.told c.args.shelf.now) (command_of (map string_bytes c.args.words.now))
+    told_complete (g.S.Shelf.told c.args.shelf.now) _ (command_of (map string_bytes c.args.words.now))
     _ _ c.run-ended.result.end.outcome _ c.run-ended.ensures.ran.warnings_hold _ _ _ _
     c.run-ended.ensures.usage c.run-ended.ensures.causes
 
 pub returns-clause-output_same : goal.returns-clause-output_same
 returns-clause-output_same g c =
-    any_untouched (g.S.Shelf.told c.args.shelf.now) (command_of (map string_bytes c.args.words.now))
+    any_untouched (g.S.Shelf.told c.args.shelf.now) _ (command_of (map string_bytes c.args.words.now))
     _ _ c.run-ended.result.end.outcome _ (λ none. (c.run-ended.ensures.unread none).0)
     c.run-ended.ensures.ran.warnings_hold
 
@@ -48,7 +48,7 @@ returns-clause-error_output g c =
       warnings = ran.warnings;
       told = told_in_all _ _ _ _ _ _ (tells_then _ _ _ _ _ ran.tells lines);
       ran = ran.warnings_hold;
-      warnings_are = told_warned (g.S.Shelf.told c.args.shelf.now)
+      warnings_are = told_warned (g.S.Shelf.told c.args.shelf.now) _
           (command_of (map string_bytes c.args.words.now)) _ _ end.outcome ran.warnings ran.warnings_hold;
     }
 

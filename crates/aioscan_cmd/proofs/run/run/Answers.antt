@@ -10,7 +10,7 @@ returns-in-Err-Usage-clause-ran g c =
 
 pub returns-in-Err-NoMemory-clause-ran : goal.returns-in-Err-NoMemory-clause-ran
 returns-in-Err-NoMemory-clause-ran g c =
-    rw c.without_reads-in-Err-NoMemory.ensures (warns_none _ _ (ran_unread _ _ _))
+    rw c.without_reads-in-Err-NoMemory.ensures (warns_none _ _ (ran_unread _ _ _ _))
 
 pub returns-in-Err-NoMemory-clause-counted : goal.returns-in-Err-NoMemory-clause-counted
 returns-in-Err-NoMemory-clause-counted g c =

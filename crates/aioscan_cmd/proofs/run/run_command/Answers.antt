@@ -14,7 +14,8 @@ returns-in-None-clause-ran g c =
     let files = sym c.generated.ensures.pages ∙ c.in-None.is in
     let counts = g.S.Shelf.counts in
     let ran = c.list_files-end.ensures.ran in
-    let P : Option ℕ → Type 0 = λ m. IsSourceRun (g.S.Shelf.told c.args.shelf.now) command m
+    let P : Option ℕ → Type 0 = λ m. IsSourceRun (g.S.Shelf.told c.args.shelf.now)
+    (g.S.Shelf.segment c.args.shelf.now) command m
     (observed_state (g.O.Sink.written c.args.out.now) (counts c.args.shelf.now).reads)
     (observed_state (g.O.Sink.written c.conclude.new.out) (counts c.list_files-end.new.shelf).reads)
     c.conclude.result ran.warnings in record {
@@ -73,7 +74,8 @@ returns-in-Some-clause-ran g c =
     let generated = sym c.generated.ensures.pages ∙ c.in-Some.is in
     let reads = (g.S.Shelf.counts c.args.shelf.now).reads in
     let ran = c.list_generated.ensures.ran in
-    let P : Option ℕ → Type 0 = λ m. IsSourceRun (g.S.Shelf.told c.args.shelf.now) command m
+    let P : Option ℕ → Type 0 = λ m. IsSourceRun (g.S.Shelf.told c.args.shelf.now)
+    (g.S.Shelf.segment c.args.shelf.now) command m
     (observed_state (g.O.Sink.written c.args.out.now) reads)
     (observed_state (g.O.Sink.written c.list_generated.new.out) reads)
     c.list_generated.result.outcome ran.warnings in record {

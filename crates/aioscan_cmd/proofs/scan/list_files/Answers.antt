@@ -33,7 +33,7 @@ returns-in-Err-clause-ran g c =
       c.open.ensures.reads,
     ) in
     let failed : LengthsFailed (shelf_told (g.S.Shelf.told c.args.shelf.now) (command_relations
-    c.args.command.now)) (g.S.Disk.Disk.segment c.in-Ok-open.disk) (length (command_relations
+    c.args.command.now)) (g.S.Shelf.segment c.args.shelf.now) (length (command_relations
     c.args.command.now)) c.in-Err.outcome = search (rules, c.in-Err.ensures.lengths) in
     rw (c.without_reads-in-Err.ensures, reads) (warns_none _ _ (ran_refused _ _ _ _ _ _ failed))
 
@@ -59,12 +59,13 @@ returns-clause-ran g c =
     let told = ap (λ files. shelf_told files c.in-Ok.relations) opened.told
     ∙ ap (shelf_told (g.S.Shelf.told c.args.shelf.now)) c.in-Ok.ensures in
     let has : HasAllLengths (shelf_told (g.S.Shelf.told c.args.shelf.now) (command_relations
-    c.args.command.now)) c.segment.result (length (command_relations c.args.command.now))
-    c.as_slice.result.now = search (rules, c.in-Ok-take_lengths.ensures.lengths) in
+    c.args.command.now)) (g.S.Shelf.segment c.args.shelf.now) (length (command_relations
+    c.args.command.now)) c.as_slice.result.now =
+    search (rules, c.in-Ok-take_lengths.ensures.lengths) in
     warns_also _ _ _ _ (λ w is. ended_ran _ given _ _ _ _ _ _ _ _ _ w
     (scanned_behind _ given _ _ _ (g.S.Shelf.counts c.args.shelf.now) _ _ _ _ _ _ w opened.later
     opened.length_faults opened.faults opened.reads is) _ back.open_faults _ back.length_faults
-    back.faults back.reads _ _ _ counted refl _ _ told refl has) scanned
+    back.faults back.reads _ _ _ counted refl _ _ _ told refl has) scanned
 
 pub returns-clause-causes : goal.returns-clause-causes
 returns-clause-causes g c =
