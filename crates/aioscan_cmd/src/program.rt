@@ -1,6 +1,6 @@
 //! A run of the program: the words of the command line, the files of the system and the two
 //! standard streams go to the top call.
-ghost use Rattle.std.specs.Prelude.{◌≡◌, ◌⊎◌, map, None, string_bytes};
+ghost use Rattle.std.specs.Prelude.{◌≡◌, ◌≤◌, ◌⊎◌, map, None, string_bytes};
 ghost use Rattle.std.specs.Process.{exit_status};
 ghost use Rattle.command_line.specs.Words.{command_of};
 
@@ -19,7 +19,8 @@ use std::thread::Threads;
 const NO_MEMORY: u8 = 5;
 
 // The words of the command line without the program's name. One that is not UTF-8 makes a faulty
-// command line, as no words at all do.
+// command line, as no words at all do. No contract can say what the system hands over, so there is
+// no clause.
 fn words<R: Env + AllocGlobal>(rt: &R) -> Result<Vec<String>, AllocError> {
     let mut words = Vec::new(rt.alloc());
     match env::args(rt) {
@@ -49,6 +50,7 @@ where
     ensures usage { exit_status result ≡ 2 → command_of (map string_bytes words.now) ≡ None }
     ensures refused { command_of (map string_bytes words.now) ≡ None
         → (exit_status result ≡ 2) ⊎ (exit_status result ≡ 5) }
+    ensures most { exit_status result ≤ 7 }
 {
     let mut shelf = FileShelf::new(rt);
     let mut out = StdSink::out(rt);
@@ -57,10 +59,12 @@ where
     exit_of(&report)
 }
 
-/// Runs the program with the words of the command line. Without memory for them the exit code is 5.
+/// Runs the program with the words of the command line, by [`run_words`]. Without memory for them
+/// the exit code is 5. No contract can say which words the system hands over.
 pub fn run<R>(rt: &R) -> ExitCode
 where
     R: Env + Files<File = File> + AllocGlobal + Print + Eprint + Threads + Wait + Sync,
+    ensures most { exit_status result ≤ 7 }
 {
     match words(rt) {
         Ok(words) => run_words(rt, words.as_slice()),
