@@ -102,18 +102,29 @@ fn one_stream_reads_the_jobs_of_a_share(rt: HostRuntime) -> Result<(), Fail> {
     check_rows(&rt, "--method sync --backends 2", &rows)
 }
 
-// Beside a worker one backend has shares of 1, 1, 2, 4, 8, 8 and 8 jobs. A share has 4 reads more than
-// its jobs have blocks by 16: 8 for one job, and 36 for eight. Alone it has shares of one job.
-const LONE: [(&str, u128); 3] = [
+// Beside a worker one backend has shares of 1, 1, 2, 4, 8, 8 and 8 jobs. Alone it has shares of one
+// job. A share of the first 256 blocks has 4 reads more than its jobs have blocks by 16: 8 for one
+// job, and 12 for two. Behind them the distance goes on, and each read has 16 blocks. Another
+// relation begins anew, and so does the same one from its first block on.
+const LONE: [(&str, u128); 6] = [
     (
         "beside a worker | f:640E | --workers 1 f | 0/0-639 | | 0",
-        60,
+        52,
     ),
     (
         "up to eight jobs | f:2048E | --workers 1 f | 0/0-2047 | | 0",
-        156,
+        140,
     ),
-    ("alone | f:640E | --method sync f | 0/0-639 | | 0", 80),
+    ("alone | f:640E | --method sync f | 0/0-639 | | 0", 56),
+    ("256 blocks | f:256E | --method sync f | 0/0-255 | | 0", 32),
+    (
+        "two relations | f:320E g:320E | --method sync f g | 0/0-319 1/0-319 | | 0",
+        72,
+    ),
+    (
+        "one relation twice | f:320E | --method sync --buffers 16 f f | 0/0-319 0/0-319 | | 0",
+        72,
+    ),
 ];
 
 #[test]

@@ -122,6 +122,29 @@ fn distances(rt: HostRuntime) {
     assert_eq!(rt; Plan::new(16, 16, 10, true, SEGMENT).distance(), 10);
 }
 
+// Whether the distance begins at the 4 blocks of a run, and to what it is raised; the limit is 10.
+const RAISED: [(bool, u32, u32); 8] = [
+    (false, 0, 1),
+    (false, 1, 1),
+    (false, 7, 7),
+    (false, 10, 10),
+    (false, 11, 10),
+    (true, 3, 4),
+    (true, 5, 5),
+    (true, 4294967295, 10),
+];
+
+#[test]
+fn raised_distances(rt: HostRuntime) {
+    for (full, to, distance) in RAISED {
+        let mut plan = Plan::new(4, 16, 10, full, SEGMENT);
+        plan.raise_distance(to);
+        assert_eq!(rt; plan.distance(), distance, "full {full}, to {to}");
+        plan.raise_distance(1);
+        assert_eq!(rt; plan.distance(), distance, "full {full}, to {to}, to 1");
+    }
+}
+
 #[test]
 fn look_ahead(rt: HostRuntime) {
     let mut plan = Plan::new(16, 1, 2, true, SEGMENT);

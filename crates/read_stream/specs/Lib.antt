@@ -3,6 +3,7 @@ pub mod IoContexts
 pub mod StreamIos
 pub mod FailedReads
 pub mod Parts
+pub mod Reaches
 pub mod Desks
 pub mod QueuedBlocks
 pub mod AtHand

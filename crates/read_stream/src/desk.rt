@@ -2,11 +2,12 @@
 ghost use Rattle.std.specs.Prelude.{◌≡◌, ◌≤◌, ◌+◌, IfOk};
 ghost use Rattle.read_stream.specs.IoContexts.{IsValidContext, ContextAdvanced};
 ghost use Rattle.read_stream.specs.StreamIos.{Issued, record_count, ios_started};
-ghost use Rattle.read_stream.specs.Desks.{AreValidSettings, IsFreeDesk, desk_begun, desk_settings};
-ghost use Rattle.read_stream.specs.Desks.{plan_of_settings};
+ghost use Rattle.read_stream.specs.Desks.{AreValidSettings, IsFreeDesk, desk_begun};
+ghost use Rattle.read_stream.specs.Desks.{desk_expecting, desk_settings, plan_of_settings};
 
 use crate::blocks::Blocks;
 use crate::io_context::IoContext;
+use crate::reached::Reached;
 use crate::reads::Reads;
 use crate::scope::Scope;
 use aio_batch::Method;
@@ -43,6 +44,10 @@ pub struct Desk<W: World, P: Copy> {
     pub(crate) settings: Settings,
     pub(crate) blocks: Blocks<P>,
     pub(crate) reads: Reads<W>,
+    /// What its streams have read, if they were expected.
+    pub(crate) reached: Reached,
+    /// What they will have read with the next one.
+    pub(crate) expected: Reached,
 }
 
 impl Settings {
@@ -71,7 +76,23 @@ impl<W: World, P: Copy> Desk<W, P> {
                 over: false,
             },
             reads: Reads::make(alloc, settings.ios + 1, settings.combine)?,
+            reached: Reached::nothing(),
+            expected: Reached::nothing(),
         })
+    }
+
+    /// Tells how many blocks of which relation the next stream has to read, from `first` on.
+    ///
+    /// A stream begins with a look-ahead distance of 1, or as `full` says. Where it goes on at the
+    /// block at which the last one was to end, and 256 blocks or more are behind it, it begins with
+    /// the distance of that one's end. One that is not expected begins anew, and so does the next.
+    pub fn expect(&mut self, relation: u32, first: u32, count: u32)
+        requires free { IsFreeDesk self.old }
+        ensures free { IsFreeDesk self.new }
+        ensures expecting { self.new ≡ desk_expecting self.old relation first count }
+    {
+        let distance = self.blocks.plan.distance();
+        self.expected = self.reached.then(relation, first, count, distance);
     }
 
     // For a new stream: it has made no I/O yet.
@@ -79,7 +100,10 @@ impl<W: World, P: Copy> Desk<W, P> {
         requires { AreValidSettings self.old.settings }
         ensures { self.new ≡ desk_begun self.old }
     {
+        self.reached = self.expected;
+        self.expected = Reached::nothing();
         self.blocks.plan = self.settings.plan();
+        self.blocks.plan.raise_distance(self.reached.distance);
         self.blocks.over = false;
         self.reads.taken_in = 0;
     }

@@ -30,6 +30,7 @@ mod loan;
 mod look_ahead;
 mod parts;
 mod queue;
+mod reached;
 mod reads;
 mod ring;
 mod scope;

@@ -107,6 +107,7 @@ pub(crate) fn read<W: World, M: Method<ReadIo, W>, E: Execute<ReadIo, W>, T: Wai
     ensures kept { C.kept consumer.new ≡ C.kept consumer.old }
 {
     let relation = blocks.relation;
+    desk.expect(relation, blocks.first, blocks.count);
     let source = UnskippedBlocks::new(blocks);
     let mut stream = ReadStream::open(desk, pool, actor, relation, source);
     let ending = take_all(
