@@ -19,7 +19,7 @@ Run = collections.namedtuple("Run", "status whole faults new line")
 
 
 class Scan:
-    """What all runs over a cluster share. Each of so many backends opens each file, and reads by itself: no
+    """What all runs over a cluster share. So many backends read by themselves through the same open files: no
     page waits for a worker, and as many reads are under way as backends. The first run begins with the
     scan, so that the catalogs can be read beside it.
     limits: the program's words for the LSNs and transactions that there may be. new: how many pages that
@@ -70,7 +70,7 @@ class Scan:
     def cut(self, files, zeros, most):
         """So many files at a time as may be open together, with the segments before each."""
         limit = resource.getrlimit(resource.RLIMIT_NOFILE)[0]
-        room = MOST_WORDS * (zeros + 1) if limit == resource.RLIM_INFINITY else (limit - OTHER_DESCRIPTORS) // self.jobs
+        room = MOST_WORDS * (zeros + 1) if limit == resource.RLIM_INFINITY else limit - OTHER_DESCRIPTORS
         most = max(1, min(room // (zeros + 1), most))
         for begin in range(0, len(files), most):
             part, links = files[begin : begin + most], tempfile.mkdtemp(dir=self.links.name)
