@@ -1,11 +1,12 @@
 //! Reads of real files.
-ghost use Rattle.std.specs.Prelude.{◌≡◌, ◌<◌};
+ghost use Rattle.std.specs.Prelude.{◌≡◌, ◌<◌, length};
 
 use crate::answers::{Reads, check_reads, read};
-use aio_disk::{Disk, FileShelf, Shelf};
+use aio_disk::{Disk, FileDisk, FileShelf, Shelf};
 use page_check::PAGE_SIZE;
 use page_fixtures::files::open_disk;
 use std::fs::{self, File};
+use std::process::Abort;
 use std::rt::Files;
 use std::test::Fail;
 
@@ -68,6 +69,53 @@ fn two_files_are_two_relations(rt: HostRuntime) -> Result<(), Fail> {
     shelf.take_back(disk);
     fs::remove_file(&rt, "first")?;
     fs::remove_file(&rt, "second")?;
+    Ok(())
+}
+
+// Opens a disk over these names, and compares what fills each page of one of its relations.
+fn open_and_check<R: Abort + Files<File = File> + AllocGlobal>(
+    rt: &R,
+    shelf: &mut FileShelf<'_, R>,
+    names: &[&str],
+    relation: u32,
+    wanted: &[u8],
+) -> Result<FileDisk, Fail>
+    requires { relation < length names.now }
+{
+    let mut disk = open_disk(rt.alloc(), shelf, names)?;
+    check_reads(rt, &mut disk, relation, &[((0, 16), wanted)])?;
+    Ok(disk)
+}
+
+// Removes the file of this name, and makes another one of a block.
+fn replace_file<R: Files<File = File> + AllocGlobal>(
+    rt: &R,
+    name: &str,
+    byte: u8,
+) -> Result<(), Fail> {
+    fs::remove_file(rt, name)?;
+    write_file(rt, name, byte, 1)
+}
+
+// What a name stands for is replaced between the opens, so a disk that opens it anew reads other bytes.
+#[test]
+fn disks_over_the_same_names_open_their_files_once(rt: HostRuntime) -> Result<(), Fail> {
+    write_file(&rt, "one", 51, 1)?;
+    write_file(&rt, "two", 1, 2)?;
+    let mut shelf = FileShelf::new(&rt);
+    let first = open_and_check(&rt, &mut shelf, &["one", "two"], 1, &[1, 2])?;
+    replace_file(&rt, "two", 101)?;
+    let second = open_and_check(&rt, &mut shelf, &["one", "two"], 1, &[1, 2])?;
+    shelf.take_back(second);
+    let third = open_and_check(&rt, &mut shelf, &["one", "two"], 1, &[101])?;
+    let other = open_and_check(&rt, &mut shelf, &["two", "one"], 1, &[51])?;
+    replace_file(&rt, "two", 151)?;
+    let fewer = open_and_check(&rt, &mut shelf, &["two"], 0, &[151])?;
+    for disk in [first, third, other, fewer] {
+        shelf.take_back(disk);
+    }
+    fs::remove_file(&rt, "one")?;
+    fs::remove_file(&rt, "two")?;
     Ok(())
 }
 
