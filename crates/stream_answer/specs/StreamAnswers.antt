@@ -1,5 +1,5 @@
 -- What a stream answers, in the words of synchronous reads.
-use Rattle.std.specs.Prelude.{ℕ, List, map}
+use Rattle.std.specs.Prelude.{ℕ, List, Option, Some, None, map}
 use Rattle.page_check.specs.declared.rules.PageMark.{PageMark}
 use Rattle.page_check.specs.declared.rules.PageMark.TheVariants.{Valid, Zeroed, Damaged}
 use Rattle.page_check.specs.SynchronousAnswer.{Entry}
@@ -43,3 +43,8 @@ module _ {P : Type 0} where
   abbrev pub pages_given : Said P → ℕ
   pages_given (SaidPage given) = 1
   pages_given (SaidStop end) = 0
+
+  -- the page that the answer gives, whatever its mark
+  abbrev pub answer_page : Said P → Option (List ℕ)
+  answer_page (SaidPage given) = Some given.page
+  answer_page (SaidStop end) = None
