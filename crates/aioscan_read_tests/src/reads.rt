@@ -95,10 +95,11 @@ fn a_ring_reads_in_its_own_order(rt: HostRuntime) -> Result<(), Fail> {
 }
 
 // Two backends have shares of 1, 1, 2 and more jobs of 64 blocks each. Reads grow from 1 block to 16
-// in a share: there are 8 for one job, and 12 for two, since one stream reads both.
+// in a share: there are 8 for one job, and 12 for two, since one stream reads both. Then the first
+// backend has read 256 blocks, and reads the last two jobs by 8.
 #[test]
 fn one_stream_reads_the_jobs_of_a_share(rt: HostRuntime) -> Result<(), Fail> {
-    let rows = ["ten jobs | f:640E | --stats f | 0/0-639 | totals 68 | 0"];
+    let rows = ["ten jobs | f:640E | --stats f | 0/0-639 | totals 64 | 0"];
     check_rows(&rt, "--method sync --backends 2", &rows)
 }
 

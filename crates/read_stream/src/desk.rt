@@ -83,9 +83,12 @@ impl<W: World, P: Copy> Desk<W, P> {
 
     /// Tells how many blocks of which relation the next stream has to read, from `first` on.
     ///
-    /// A stream begins with a look-ahead distance of 1, or as `full` says. Where it goes on at the
-    /// block at which the last one was to end, and 256 blocks or more are behind it, it begins with
-    /// the distance of that one's end. One that is not expected begins anew, and so does the next.
+    /// A stream begins with a look-ahead distance of 1, or as `full` says. Where it goes on in the
+    /// same relation, at the block at which the last one was to end or behind it, it begins with the
+    /// distance of that one's end, once streams that went on so have had 256 blocks to read. So does
+    /// each worker of a parallel sequential scan, whose stream goes on from chunk to chunk
+    /// (`table_block_parallelscan_nextpage` of tableam.c). One that is not expected begins anew, and
+    /// so does the next.
     pub fn expect(&mut self, relation: u32, first: u32, count: u32)
         requires free { IsFreeDesk self.old }
         ensures free { IsFreeDesk self.new }

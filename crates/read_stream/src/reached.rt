@@ -5,7 +5,7 @@ ghost use Rattle.read_stream.specs.Reaches.{nothing_reached, reached_by};
 /// So many blocks are read by streams that each begin anew.
 const FIRST_BLOCKS: u64 = 256;
 
-/// What streams have read of a relation, each from the block on where the one before it ended.
+/// What streams have read of a relation, each at or behind the block where the one before it ended.
 #[derive(Clone, Copy)]
 pub struct Reached {
     pub relation: u32,
@@ -35,7 +35,7 @@ impl Reached {
     pub fn then(&self, relation: u32, first: u32, count: u32, distance: u32) -> Reached
         ensures { result ≡ reached_by self.now relation first count distance }
     {
-        let goes_on = self.relation == relation && self.next == u64::from(first);
+        let goes_on = self.relation == relation && self.next <= u64::from(first);
         let before = if goes_on { self.blocks } else { 0 };
         Reached {
             relation,
