@@ -42,7 +42,8 @@ returns-clause-desk g c =
     ∙ ap (λ (z : StreamView (Unit {0})). z.desk) opened) in
     let settings = c.close-desk.ensures.desk.2
     ∙ (ap (λ (z : StreamView (Unit {0})). z.settings) later
-    ∙ ap (λ (z : StreamView (Unit {0})). z.settings) opened) in
+    ∙ (ap (λ (z : StreamView (Unit {0})). z.settings) opened
+    ∙ ap (λ (d : Desk _ (Unit {0})). d.settings) c.expect.ensures.expecting)) in
     let same = c.desk-1.given.1 (sym name) ∙ c.end_borrow.ensures in (
       subst (λ d. IsFreeDesk d) (sym same) c.close-desk.ensures.desk.1,
       ap (λ (d : Desk _ (Unit {0})). d.settings.rules) same
@@ -81,7 +82,8 @@ pub returns-clause-given : goal.returns-clause-given
 returns-clause-given g c =
     let opened = c.open-stream.ensures.stream in
     given_moved _ _ _ _ _ _ _ _ _ _ _ _ _ _ _
-    (ap (λ (z : StreamView (Unit {0})). z.settings.rules) opened)
+    (ap (λ (z : StreamView (Unit {0})). z.settings.rules) opened
+    ∙ ap (λ (d : Desk _ (Unit {0})). d.settings.rules) c.expect.ensures.expecting)
     (ap (λ (z : StreamView (Unit {0})). z.actor_was) opened)
     (ap (stream_entries c.args.blocks.relation)
     (ap (λ (z : StreamView (Unit {0})). z.blocks) opened ∙ c.new-source.ensures)
